@@ -1,0 +1,91 @@
+//! The name of a feature, of an attribute or of a session.
+ghost use Rattle.std.specs.Prelude.{◌≡◌, ◌↔◌, IfOk, IsErrOf, IsTrue, IsFalse, chars, encode_utf8_all};
+ghost use Rattle.std.specs.List.{list_all};
+ghost use Rattle.uvl_base.specs.Name.{is_name, may_stand_in_name};
+
+use crate::text::Text;
+use std::alloc::{AllocError, Global};
+use std::marker::Model;
+use thiserror::Error;
+
+/// Why a text was not taken as a name.
+#[derive(Clone, Copy, Debug, PartialEq, Eq, Error)]
+pub enum NameFault {
+    /// The text is empty, or holds a double quote, LF or CR.
+    #[error("a name is not empty, and holds no double quote and no line break")]
+    BadName,
+    #[error("out of memory")]
+    OutOfMemory,
+}
+
+impl From<AllocError> for NameFault {
+    ghost use Rattle.std.specs.Prelude.{◌≡◌};
+    ghost use Rattle.uvl_base.specs.declared.name.NameFault.TheVariants.{OutOfMemory};
+
+    ghost from_gives = { λ _ e. e ≡ OutOfMemory };
+
+    fn from(_: AllocError) -> NameFault {
+        NameFault::OutOfMemory
+    }
+}
+
+/// A name: at least one character, none of them a double quote, LF or CR. Contracts see its
+/// characters. What a UVL file writes as an identifier and what it writes in double quotes are
+/// one name where their characters are the same.
+#[derive(Debug, Drop)]
+pub struct Name {
+    text: Text,
+}
+
+impl Model for Name {
+    ghost use Rattle.std.specs.Prelude.{List, ℕ, IsTrue};
+    ghost use Rattle.uvl_base.specs.Name.{is_name};
+
+    ghost Value = { List ℕ };
+
+    ghost view = { λ n. n.text };
+
+    ghost invariant = { λ n. IsTrue (is_name n.text) };
+}
+
+impl Name {
+    /// The name with these characters. It is refused as `BadName` exactly where they are no name.
+    pub fn new(alloc: Global, text: &str) -> Result<Name, NameFault>
+        ensures characters { IfOk result (λ n. n ≡ chars text.now) }
+        ensures bad_name { IsErrOf result NameFault.BadName ↔ IsFalse (is_name (chars text.now)) }
+    {
+        if !is_name(text) {
+            return Err(NameFault::BadName);
+        }
+        let text = Text::new(alloc, text)?;
+        Ok(Name { text })
+    }
+
+    /// The characters, lent.
+    pub fn text(&self) -> &str
+        ensures characters { chars result.now ≡ self.now }
+        ensures bytes { result.now ≡ encode_utf8_all self.now }
+        ensures name { IsTrue (is_name self.now) }
+    {
+        self.text.text()
+    }
+}
+
+/// Whether a text's characters are a name.
+fn is_name(text: &str) -> bool
+    ensures { result ≡ is_name (chars text.now) }
+{
+    !text.is_empty() && all_may_stand(text)
+}
+
+fn all_may_stand(text: &str) -> bool
+    ensures { result ≡ list_all may_stand_in_name (chars text.now) }
+{
+    text.chars().all(may_stand_in_name)
+}
+
+fn may_stand_in_name(character: char) -> bool
+    ensures { result ≡ may_stand_in_name character }
+{
+    !matches!(character, '"' | '\n' | '\r')
+}
