@@ -1,0 +1,5 @@
+pub mod Product
+pub mod Rows
+pub mod Sound
+pub mod Spelling
+pub mod Tree

@@ -1,0 +1,42 @@
+-- What a feature model keeps in its type.
+use Rattle.std.specs.Prelude.{◌≡◌, ℕ, ◌+◌, ◌≤◌, ◌⊎◌, ⊤, List, [], ◌∷◌, Contains}
+use Rattle.uvl_model.specs.Rows.{Rows}
+use Rattle.uvl_model.specs.Tree.{Tree, Groups, Members, feature, no_groups, group, no_members, member, member_count, names_of, depth_of}
+use Rattle.uvl_model.specs.Spelling.{Spells, size_of}
+
+-- no name of the list stands twice
+abbrev pub AreDistinct : List (List ℕ) → Type 0
+AreDistinct [] = ⊤
+AreDistinct (name ∷ names) = (Contains names name → ⊥) × AreDistinct names
+
+-- The bounds of a group of k members: it has a member, hi is at most k, and lo is at most hi, or is k + 1
+-- beside hi = k, and then no set fits.
+abbrev pub HasBounds : ℕ → ℕ → ℕ → Type 0
+HasBounds lo hi k = (1 ≤ k) × (hi ≤ k) × ((lo ≤ hi) ⊎ ((lo ≡ k + 1) × (hi ≡ k)))
+
+-- each group of the tree has such bounds
+abbrev mutual
+  pub IsBounded : Tree → Type 0
+  IsBounded (feature name below) = AreBounded below
+
+  pub AreBounded : Groups → Type 0
+  AreBounded no_groups = ⊤
+  AreBounded (group lo hi members others) = HasBounds lo hi (member_count members) × MembersAreBounded members × AreBounded others
+
+  pub MembersAreBounded : Members → Type 0
+  MembersAreBounded no_members = ⊤
+  MembersAreBounded (member tree others) = IsBounded tree × MembersAreBounded others
+
+-- A tree that a model may have: at most 2,048 features, at most 64 deep, with distinct names and bounds
+-- as above.
+pub record IsWithinLimits (tree : Tree) : Type 0 where
+  pub few : size_of tree ≤ 2048
+  pub shallow : depth_of tree ≤ 64
+  pub distinct : AreDistinct (names_of tree)
+  pub bounded : IsBounded tree
+
+-- the rows spell such a tree
+pub record IsSound (rows : Rows) : Type 0 where
+  pub tree : Tree
+  pub spelled : Spells tree rows
+  pub within : IsWithinLimits tree

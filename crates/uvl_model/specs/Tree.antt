@@ -1,0 +1,52 @@
+-- A feature tree, as UVL writes one: a feature has groups, and a group has bounds and members.
+use Rattle.std.specs.Prelude.{ℕ, ◌+◌, max, List, [], ◌∷◌, ◌++◌}
+
+mutual
+  -- a feature with its name and its groups
+  pub data Tree : Type 0 where
+    feature : (name : List ℕ) (below : Groups) → Tree
+
+  -- the groups of a feature, as they are written
+  pub data Groups : Type 0 where
+    no_groups : Groups
+    group : (lo hi : ℕ) (members : Members) (others : Groups) → Groups
+
+  -- the members of a group, as they are written
+  pub data Members : Type 0 where
+    no_members : Members
+    member : (tree : Tree) (others : Members) → Members
+
+-- the name of the feature at the top
+abbrev pub top_name : Tree → List ℕ
+top_name (feature name below) = name
+
+-- how many members a group has
+abbrev pub member_count : Members → ℕ
+member_count no_members = 0
+member_count (member tree others) = 1 + member_count others
+
+-- the names of the features in document order: a feature before its groups
+abbrev mutual
+  pub names_of : Tree → List (List ℕ)
+  names_of (feature name below) = name ∷ names_of_groups below
+
+  pub names_of_groups : Groups → List (List ℕ)
+  names_of_groups no_groups = []
+  names_of_groups (group lo hi members others) = names_of_members members ++ names_of_groups others
+
+  pub names_of_members : Members → List (List ℕ)
+  names_of_members no_members = []
+  names_of_members (member tree others) = names_of tree ++ names_of_members others
+
+-- how deep the tree is, a feature without groups being 1 deep
+abbrev mutual
+  pub depth_of : Tree → ℕ
+  depth_of (feature name below) = 1 + depth_of_groups below
+
+  pub depth_of_groups : Groups → ℕ
+  depth_of_groups no_groups = 0
+  depth_of_groups (group lo hi members others) = max (depth_of_members members) (depth_of_groups others)
+
+  pub depth_of_members : Members → ℕ
+  depth_of_members no_members = 0
+  depth_of_members (member tree others) = max (depth_of tree) (depth_of_members others)

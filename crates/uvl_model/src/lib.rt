@@ -1,0 +1,9 @@
+//! The flat form of a feature model: numbered rows of features and groups, and the plain check of
+//! one set of features against them.
+#![tactic(auto)]
+
+mod model;
+mod rows;
+
+pub use model::Model;
+pub use rows::{FeatureNo, FeatureRow, GroupRow};

@@ -1,0 +1,61 @@
+-- How the bytes of a script are cut into lines.
+use Rattle.std.specs.Prelude.{ℕ, Bool, true, false, ◌||◌, ◌==◌, List, [], ◌∷◌, ◌++◌, if◌then◌else◌}
+
+-- The lines that end within the bytes, where the first of them has begun with some bytes already. A line
+-- ends with LF, which is no part of it.
+abbrev pub ended_lines_from : List ℕ → List ℕ → List (List ℕ)
+ended_lines_from begun [] = []
+ended_lines_from begun (b ∷ bs) = if b == 10 then begun ∷ ended_lines_from [] bs else ended_lines_from (begun ++ b ∷ []) bs
+
+-- the bytes behind the last LF, where the first line has begun with some bytes already
+abbrev pub open_line_from : List ℕ → List ℕ → List ℕ
+open_line_from begun [] = begun
+open_line_from begun (b ∷ bs) = if b == 10 then open_line_from [] bs else open_line_from (begun ++ b ∷ []) bs
+
+-- the lines that end within the bytes
+abbrev pub ended_lines : List ℕ → List (List ℕ)
+ended_lines bytes = ended_lines_from [] bytes
+
+-- the bytes behind the last LF
+abbrev pub open_line : List ℕ → List ℕ
+open_line bytes = open_line_from [] bytes
+
+-- bytes behind the last LF are a line where there are any
+abbrev pub last_line : List ℕ → List (List ℕ)
+last_line [] = []
+last_line (b ∷ bs) = (b ∷ bs) ∷ []
+
+-- all lines of a script
+abbrev pub script_lines : List ℕ → List (List ℕ)
+script_lines bytes = ended_lines bytes ++ last_line (open_line bytes)
+
+-- a line without the CR at its end, where it has one
+abbrev pub without_cr : List ℕ → List ℕ
+without_cr [] = []
+without_cr (b ∷ []) = if b == 13 then [] else b ∷ []
+without_cr (b ∷ c ∷ bs) = b ∷ without_cr (c ∷ bs)
+
+-- words are separated by spaces and tabs
+abbrev pub is_separator : ℕ → Bool
+is_separator b = b == 32 || b == 9
+
+-- a line that is blank, or whose first character but spaces and tabs is `#`, has no reply
+abbrev pub is_silent : List ℕ → Bool
+is_silent [] = true
+is_silent (b ∷ bs) = if is_separator b then is_silent bs else b == 35
+
+-- whether the bytes begin within a word
+abbrev pub begins_word : List ℕ → Bool
+begins_word [] = false
+begins_word (b ∷ bs) = if is_separator b then false else true
+
+-- a byte in front of the first word
+abbrev pub onto_first : ℕ → List (List ℕ) → List (List ℕ)
+onto_first b [] = (b ∷ []) ∷ []
+onto_first b (word ∷ words) = (b ∷ word) ∷ words
+
+-- the words of a line
+abbrev pub words_of : List ℕ → List (List ℕ)
+words_of [] = []
+words_of (b ∷ bs) =
+    if is_separator b then words_of bs else (if begins_word bs then onto_first b (words_of bs) else (b ∷ []) ∷ words_of bs)

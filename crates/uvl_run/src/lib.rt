@@ -1,0 +1,5 @@
+//! The top call: a model file, and then a script that is answered line by line.
+#![tactic(auto)]
+
+mod reply;
+mod thin;
