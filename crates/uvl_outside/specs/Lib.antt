@@ -4,3 +4,7 @@ pub mod Files
 pub mod Source
 pub mod Sink
 pub mod SureFiles
+pub mod Plan
+pub mod MemFiles
+pub mod MemSource
+pub mod MemSink

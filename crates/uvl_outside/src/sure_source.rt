@@ -1,7 +1,7 @@
 // A source over bytes in memory that never fails.
 ghost use Rattle.std.specs.Prelude.{◌≡◌, ◌<◌, ◌≤◌, ℕ, List, length, ◌++◌, take, drop, min, Some, Ok, IfOk, is_err, vec_len};
 ghost use Rattle.uvl_outside.specs.Faults.{Counts};
-ghost use Rattle.uvl_outside.specs.Source.{Takes};
+ghost use Rattle.uvl_outside.specs.Source.{Takes, TakesFront};
 
 use crate::files::OutOfMemory;
 use crate::source::{Failed, Source};
@@ -23,12 +23,12 @@ impl Model for SureSource {
     ghost invariant = { λ source. source.taken ≤ vec_len source.bytes };
 }
 
-// Copies as many bytes as both have, and answers how many.
-fn copy_front(from: &[u8], into: &mut [u8]) -> usize
-    ensures most { result ≡ min (length from.now) (length into.old) }
+// Copies as many bytes as both have, but at most `most`, and answers how many.
+fn copy_front(from: &[u8], into: &mut [u8], most: usize) -> usize
+    ensures count { result ≡ min (min most (length into.old)) (length from.now) }
     ensures copied { into.new ≡ take result from.now ++ drop result into.old }
 {
-    let count = from.len().min(into.len());
+    let count = most.min(into.len()).min(from.len());
     into[..count].copy_from_slice(&from[..count]);
     count
 }
@@ -50,6 +50,18 @@ impl SureSource {
     {
         &self.bytes[self.taken..]
     }
+
+    // Moves as many bytes as fit, but at most `most`.
+    pub(crate) fn give(&mut self, into: &mut [u8], most: usize) -> usize
+        requires room { 0 < length into.old }
+        requires some { 0 < most }
+        ensures count { result ≡ min (min most (length into.old)) (length self.old) }
+        ensures moves { TakesFront (Some self.old) (Some self.new) into.new result }
+    {
+        let count = copy_front(self.rest(), into, most);
+        self.taken += count;
+        count
+    }
 }
 
 impl Source for SureSource {
@@ -62,10 +74,9 @@ impl Source for SureSource {
         ensures within { IfOk result (λ count. count ≤ length into.new) }
         ensures moves { Takes (Some self.old) (Some self.new) into.new result }
         ensures counted { Counts 0 0 (is_err result) }
-        ensures most { result ≡ Ok (min (length into.old) (length self.old)) }
+        ensures size { result ≡ Ok (min (length into.old) (length self.old)) }
     {
-        let count = copy_front(self.rest(), into);
-        self.taken += count;
-        Ok(count)
+        let room = into.len();
+        Ok(self.give(into, room))
     }
 }
