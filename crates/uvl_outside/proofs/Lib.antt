@@ -1,0 +1,2 @@
+-- Lemmas on what calls of the outside answer.
+pub mod Pieces
