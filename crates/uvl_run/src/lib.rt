@@ -1,5 +1,12 @@
 //! The top call: a model file, and then a script that is answered line by line.
 #![tactic(auto)]
 
+mod answer;
+mod command_line;
+mod load;
 mod reply;
+mod script;
+mod status;
 mod thin;
+
+pub use status::Status;

@@ -1,0 +1,106 @@
+//! The reading of a script, whose lines are answered as they come.
+ghost use Rattle.std.specs.Prelude.{◌≡◌, ◌++◌, [], ◌∷◌, length, IfOk, OnOk, vec_len};
+ghost use Rattle.uvl_outside.specs.Faults.{Counts};
+ghost use Rattle.uvl_outside.specs.Sink.{Puts, put_failed};
+ghost use Rattle.uvl_model.specs.Tree.{Tree};
+ghost use Rattle.uvl_model.specs.Spelling.{Spells};
+ghost use Rattle.uvl_run.specs.Lines.{without_cr, ended_lines_from, open_line_from, last_line};
+ghost use Rattle.uvl_run.specs.Replies.{answer_to, bytes_for, replies_to};
+
+use crate::answer::{answer, split_line};
+use std::alloc::{AllocError, Global};
+use uvl_model::Model;
+use uvl_outside::{PutFault, Sink};
+
+/// A script that is being read: its model, and the line that has begun.
+#[derive(Drop)]
+pub(crate) struct Script {
+    alloc: Global,
+    pub(crate) model: Model,
+    /// Room for a mark per feature, kept from line to line.
+    chosen: Vec<bool>,
+    /// What has come of the line that has begun, where it began in an earlier piece.
+    pub(crate) line: Vec<u8>,
+    ghost marked: { vec_len chosen ≡ length model.features },
+}
+
+impl Script {
+    /// A script of which nothing has come.
+    pub(crate) fn new(alloc: Global, model: Model) -> Result<Script, AllocError>
+        ensures { IfOk result (λ script. (script.model ≡ model) × (script.line.items ≡ [])) }
+    {
+        let chosen = vec![in alloc; false; model.features().len()]?;
+        let line = Vec::new(alloc);
+        Ok(Script {
+            alloc,
+            model,
+            chosen,
+            line,
+        })
+    }
+
+    /// Answers the lines that end in a piece, and keeps what has come of the next.
+    pub(crate) fn answer_piece<K: Sink>(&mut self, piece: &[u8], out: &mut K) -> Result<(), PutFault>
+        ensures model { self.new.model ≡ self.old.model }
+        ensures begun { OnOk result (self.new.line.items ≡ open_line_from self.old.line.items piece.now) }
+        ensures replies { (tree : Tree) → Spells tree self.old.model →
+            Puts (K.written out.old) (K.written out.new) (replies_to tree (ended_lines_from self.old.line.items piece.now)) result }
+        ensures counted { Counts (K.faults out.old) (K.faults out.new) (put_failed result) }
+    {
+        let mut rest = piece;
+        while let Some((front, behind)) = split_line(rest) {
+            self.end_line(front, out)?;
+            rest = behind;
+        }
+        self.line.extend_from_slice(rest)?;
+        Ok(())
+    }
+
+    /// Answers the line that has begun, which ends with these bytes.
+    fn end_line<K: Sink>(&mut self, end: &[u8], out: &mut K) -> Result<(), PutFault>
+        ensures model { self.new.model ≡ self.old.model }
+        ensures begun { OnOk result (self.new.line.items ≡ []) }
+        ensures reply { (tree : Tree) → Spells tree self.old.model →
+            Puts (K.written out.old) (K.written out.new) (bytes_for (answer_to tree (without_cr (self.old.line.items ++ end.now)))) result }
+        ensures counted { Counts (K.faults out.old) (K.faults out.new) (put_failed result) }
+    {
+        if self.line.is_empty() {
+            return put_answer(self.alloc, &self.model, &mut self.chosen, end, out);
+        }
+        self.line.extend_from_slice(end)?;
+        put_answer(self.alloc, &self.model, &mut self.chosen, &self.line, out)?;
+        self.line.clear();
+        Ok(())
+    }
+
+    /// Answers the bytes behind the last line end, where there are any.
+    pub(crate) fn finish<K: Sink>(&mut self, out: &mut K) -> Result<(), PutFault>
+        ensures replies { (tree : Tree) → Spells tree self.old.model →
+            Puts (K.written out.old) (K.written out.new) (replies_to tree (last_line self.old.line.items)) result }
+        ensures counted { Counts (K.faults out.old) (K.faults out.new) (put_failed result) }
+    {
+        if self.line.is_empty() {
+            return Ok(());
+        }
+        put_answer(self.alloc, &self.model, &mut self.chosen, &self.line, out)
+    }
+}
+
+/// Writes the reply to a line without its LF.
+fn put_answer<K: Sink>(
+    alloc: Global,
+    model: &Model,
+    chosen: &mut [bool],
+    line: &[u8],
+    out: &mut K,
+) -> Result<(), PutFault>
+    requires { length chosen.old ≡ length model.now.features }
+    ensures reply { (tree : Tree) → Spells tree model.now →
+        Puts (K.written out.old) (K.written out.new) (bytes_for (answer_to tree (without_cr line.now))) result }
+    ensures counted { Counts (K.faults out.old) (K.faults out.new) (put_failed result) }
+{
+    match answer(model, chosen, line) {
+        None => Ok(()),
+        Some(reply) => out.put(alloc, reply.text().as_bytes()),
+    }
+}
