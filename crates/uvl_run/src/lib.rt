@@ -1,5 +1,6 @@
 //! The top call: a model file, and then a script that is answered line by line.
 #![tactic(auto)]
 
+mod lines;
 mod reply;
 mod thin;
