@@ -1,1 +1,4 @@
+pub mod Cutting
+pub mod FirstLine
 pub mod Loads
+pub mod Told

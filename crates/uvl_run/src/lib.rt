@@ -3,6 +3,7 @@
 
 mod answer;
 mod command_line;
+mod lines;
 mod load;
 mod reply;
 mod script;

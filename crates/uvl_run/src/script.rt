@@ -7,7 +7,8 @@ ghost use Rattle.uvl_model.specs.Spelling.{Spells};
 ghost use Rattle.uvl_run.specs.Lines.{without_cr, ended_lines_from, open_line_from, last_line};
 ghost use Rattle.uvl_run.specs.Replies.{answer_to, bytes_for, replies_to};
 
-use crate::answer::{answer, split_line};
+use crate::answer::answer;
+use crate::lines::split_line;
 use std::alloc::{AllocError, Global};
 use uvl_model::Model;
 use uvl_outside::{PutFault, Sink};
