@@ -1,8 +1,9 @@
 -- How the bytes that a source has left and those that a sink was given go on from call to call.
-use Rattle.std.proofs.Common.{◌≡◌, ℕ, ◌≤◌, List, [], ◌∷◌, ◌++◌, length, take, Option, Some, None, Result, Ok, Err, refl, sym, ap, ◌∙◌, subst, append_assoc, append-nil, arith}
+use Rattle.std.proofs.Common.{◌≡◌, ◌↔◌, ℕ, zero, suc, IfSome, ◌≤◌, List, [], ◌∷◌, ◌++◌, length, take, Option, Some, None, refl, sym, ap, ◌∙◌, subst, append_assoc, append-nil, arith}
+use Rattle.std.proofs.Math.Seq.{take-nil}
 use Rattle.std.specs.Io.KnownBytes.{Consumes, Appends, IsAtEnd}
-use Rattle.uvl_outside.specs.declared.sink.PutFault.{PutFault}
-use Rattle.uvl_outside.specs.Sink.{Puts, AppendsFront}
+use Rattle.uvl_outside.specs.Sink.{AppendsFront}
+use Rattle.uvl_outside.specs.Source.{TakesFront}
 use Rattle.uvl_run.specs.Script.{IsFrontOf}
 
 -- nothing is written behind what was written
@@ -13,10 +14,10 @@ appends_nothing (Some bytes) = sym (append-nil bytes)
 -- what is written in two calls is written one behind the other
 pub appends_both : (a b c : Option (List ℕ)) (xs ys : List ℕ) → Appends a b xs → Appends b c ys → Appends a c (xs ++ ys)
 appends_both None b c xs ys first second = tt
-appends_both (Some as) None c xs ys first second = absurd first
-appends_both (Some as) (Some bs) None xs ys first second = absurd second
-appends_both (Some as) (Some bs) (Some cs) xs ys first second =
-    second ∙ ap (λ (t : List ℕ). t ++ ys) first ∙ append_assoc as xs ys
+appends_both (Some xs₀) None c xs ys first second = absurd first
+appends_both (Some xs₀) (Some ys₀) None xs ys first second = absurd second
+appends_both (Some xs₀) (Some ys₀) (Some zs₀) xs ys first second =
+    second ∙ ap (λ (t : List ℕ). t ++ ys) first ∙ append_assoc xs₀ xs ys
 
 -- nothing is taken from what is left
 pub consumes_nothing : (left : Option (List ℕ)) → Consumes left left []
@@ -26,13 +27,13 @@ consumes_nothing (Some bytes) = refl
 -- what is taken in two calls stood one behind the other
 pub consumes_both : (a b c : Option (List ℕ)) (xs ys : List ℕ) → Consumes a b xs → Consumes b c ys → Consumes a c (xs ++ ys)
 consumes_both None b c xs ys first second = tt
-consumes_both (Some as) None c xs ys first second = absurd first
-consumes_both (Some as) (Some bs) None xs ys first second = absurd second
-consumes_both (Some as) (Some bs) (Some cs) xs ys first second =
-    first ∙ ap (λ (t : List ℕ). xs ++ t) second ∙ sym (append_assoc xs ys cs)
+consumes_both (Some xs₀) None c xs ys first second = absurd first
+consumes_both (Some xs₀) (Some ys₀) None xs ys first second = absurd second
+consumes_both (Some xs₀) (Some ys₀) (Some zs₀) xs ys first second =
+    first ∙ ap (λ (t : List ℕ). xs ++ t) second ∙ sym (append_assoc xs ys zs₀)
 
 take_front : (xs ys : List ℕ) (count : ℕ) → IsFrontOf (take count xs) (xs ++ ys)
-take_front [] ys count = (ys, refl)
+take_front [] ys count = (ys, ap (λ (t : List ℕ). t ++ ys) (take-nil count))
 take_front (x ∷ xs) ys zero = (x ∷ xs ++ ys, refl)
 take_front (x ∷ xs) ys (suc count) = let front = take_front xs ys count in (front.0, ap (λ (t : List ℕ). x ∷ t) front.1)
 
@@ -40,7 +41,7 @@ take_front (x ∷ xs) ys (suc count) = let front = take_front xs ys count in (fr
 abbrev pub AppendsSome : Option (List ℕ) → Option (List ℕ) → List ℕ → Type 0
 AppendsSome before now text = (front : List ℕ) × IsFrontOf front text × Appends before now front
 
-take_length : (xs ys : List ℕ) → take (length xs) (xs ++ ys) ≡ xs
+pub take_length : (xs ys : List ℕ) → take (length xs) (xs ++ ys) ≡ xs
 take_length [] ys = refl
 take_length (x ∷ xs) ys = ap (λ (t : List ℕ). x ∷ t) (take_length xs ys)
 
@@ -55,10 +56,9 @@ counts_front before now text some =
 pub some_of_longer : (before now : Option (List ℕ)) (text more : List ℕ) → AppendsFront before now text → AppendsSome before now (text ++ more)
 some_of_longer before now text more front = (take front.0 text, take_front text more front.0, front.1)
 
--- behind a text that was written, what is put is put behind both
-pub puts_behind : {T : Type 0} (a b c : Option (List ℕ)) (xs ys : List ℕ) (result : Result T PutFault) → Appends a b xs → Puts b c ys result → Puts a c (xs ++ ys) result
-puts_behind a b c xs ys (Ok _) first second = appends_both a b c xs ys first second
-puts_behind a b c xs ys (Err _) first second =
+-- behind a text that was written, a front is put behind both
+pub front_behind : (a b c : Option (List ℕ)) (xs ys : List ℕ) → Appends a b xs → AppendsFront b c ys → AppendsFront a c (xs ++ ys)
+front_behind a b c xs ys first second =
     let front = take_front ys [] second.0 in
     let whole = ap (λ (t : List ℕ). xs ++ t) (front.1 ∙ append-nil ys) in
     counts_front a c (xs ++ ys) (
@@ -67,6 +67,35 @@ puts_behind a b c xs ys (Err _) first second =
       appends_both a b c xs (take second.0 ys) first second.1,
     )
 
--- a call that put no more than a front of a text put no more than a front of a longer one
-pub puts_less : {T : Type 0} (a b : Option (List ℕ)) (xs ys : List ℕ) (fault : PutFault) → Puts {T = T} a b xs (Err fault) → Puts {T = T} a b (xs ++ ys) (Err fault)
-puts_less a b xs ys fault front = counts_front a b (xs ++ ys) (some_of_longer a b xs ys front)
+-- a front of a text is a front of a longer one
+pub front_of_longer : (a b : Option (List ℕ)) (xs ys : List ℕ) → AppendsFront a b xs → AppendsFront a b (xs ++ ys)
+front_of_longer a b xs ys front = counts_front a b (xs ++ ys) (some_of_longer a b xs ys front)
+
+-- a whole text is a front of itself
+pub front_of_whole : (a b : Option (List ℕ)) (xs : List ℕ) → Appends a b xs → AppendsFront a b xs
+front_of_whole a b xs wrote = counts_front a b xs (xs, ([], append-nil xs), wrote)
+
+-- the first so many bytes are a front
+pub some_of_front : (a b : Option (List ℕ)) (xs : List ℕ) → AppendsFront a b xs → AppendsSome a b xs
+some_of_front a b xs front =
+    let is = take_front xs [] front.0 in (take front.0 xs, (is.0, is.1 ∙ append-nil xs), front.1)
+
+-- behind a text that was written, a front of the next is a front of both
+pub some_behind : (a b c : Option (List ℕ)) (xs ys : List ℕ) → Appends a b xs → AppendsSome b c ys → AppendsSome a c (xs ++ ys)
+some_behind a b c xs ys first second = (
+    xs ++ second.0,
+    (second.1.0, append_assoc xs second.0 second.1.0 ∙ ap (λ (t : List ℕ). xs ++ t) second.1.1),
+    appends_both a b c xs second.0 first second.2,
+  )
+
+-- a take of nothing says that nothing was left
+pub nothing_left : (before now : Option (List ℕ)) (into : List ℕ) (count : ℕ) → count ≡ 0 → TakesFront before now into count → IsAtEnd before × Consumes before now []
+nothing_left before now into count none took = (ended before took.none_at_end, took_none)
+  where
+    ended : (left : Option (List ℕ)) → IfSome left (λ bytes. (count ≡ 0) ↔ (bytes ≡ [])) → IsAtEnd left
+    ended None exact = tt
+    ended (Some bytes) exact = exact.0 none
+    took_none : Consumes before now []
+    took_none =
+        let P : ℕ → Type 0 = λ n. Consumes before now (take n into) in
+        subst P none took.front

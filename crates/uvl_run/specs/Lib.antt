@@ -3,6 +3,7 @@ pub mod Lines
 pub mod LoadFaults
 pub mod Loading
 pub mod Replies
+pub mod Run
 pub mod Script
 pub mod Status
 pub mod ThinFile

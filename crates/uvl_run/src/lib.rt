@@ -9,5 +9,7 @@ mod reply;
 mod script;
 mod status;
 mod thin;
+mod top;
 
 pub use status::Status;
+pub use top::run;

@@ -1,17 +1,26 @@
 //! The reading of a script, whose lines are answered as they come.
-ghost use Rattle.std.specs.Prelude.{◌≡◌, ◌++◌, [], ◌∷◌, length, IfOk, OnOk, vec_len};
+ghost use Rattle.std.specs.Prelude.{◌≡◌, ◌≤◌, ◌++◌, [], ◌∷◌, length, IfOk, IsFalse, OnOk, vec_len};
 ghost use Rattle.uvl_outside.specs.Faults.{Counts};
 ghost use Rattle.uvl_outside.specs.Sink.{Puts, put_failed};
 ghost use Rattle.uvl_model.specs.Tree.{Tree};
 ghost use Rattle.uvl_model.specs.Spelling.{Spells};
 ghost use Rattle.uvl_run.specs.Lines.{without_cr, ended_lines_from, open_line_from, last_line};
 ghost use Rattle.uvl_run.specs.Replies.{answer_to, bytes_for, replies_to};
+ghost use Rattle.uvl_run.specs.Script.{AnswersScript, EndsAtLimit};
+ghost use Rattle.uvl_run.specs.Status.{PutsLast, is_read_fault, is_write_fault};
 
 use crate::answer::answer;
+use crate::Status;
 use crate::lines::split_line;
 use std::alloc::{AllocError, Global};
 use uvl_model::Model;
-use uvl_outside::{PutFault, Sink};
+use uvl_outside::{Failed, PutFault, Sink, Source};
+
+/// The most bytes of a script.
+const MOST_SCRIPT_BYTES: usize = 67_108_864;
+
+/// The most bytes that are taken at once.
+const PIECE_BYTES: usize = 65_536;
 
 /// A script that is being read: its model, and the line that has begun.
 #[derive(Drop)]
@@ -38,6 +47,49 @@ impl Script {
             chosen,
             line,
         })
+    }
+
+    /// Answers the lines of the input as they come, to its end, in pieces that fit the buffer.
+    fn read<S: Source, K: Sink>(&mut self, buffer: &mut [u8], input: &mut S, out: &mut K) -> Status
+        requires room { PIECE_BYTES ≤ length buffer.old }
+        requires fresh { self.old.line.items ≡ [] }
+        ensures script { (tree : Tree) → Spells tree self.old.model →
+            AnswersScript tree (S.left input.old) (S.left input.new) (K.written out.old) (K.written out.new) result }
+        ensures input_counted { Counts (S.faults input.old) (S.faults input.new) (is_read_fault result) }
+        ensures out_counted { Counts (K.faults out.old) (K.faults out.new) (is_write_fault result) }
+    {
+        let mut count = 0;
+        while count < MOST_SCRIPT_BYTES {
+            let room = PIECE_BYTES.min(MOST_SCRIPT_BYTES - count);
+            let piece = &mut buffer[..room];
+            match input.take(piece) {
+                Err(Failed) => return Status::ReadFault,
+                Ok(0) => return self.finish(out),
+                Ok(taken) => {
+                    if let Err(fault) = self.answer_piece(&piece[..taken], out) {
+                        return Status::from(fault);
+                    }
+                    count += taken;
+                }
+            }
+        }
+        self.end_at_limit(input, out)
+    }
+
+    /// Ends a script of which as many bytes were taken as it may have. Only another byte tells
+    /// whether it has more.
+    fn end_at_limit<S: Source, K: Sink>(&mut self, input: &mut S, out: &mut K) -> Status
+        ensures limit { (tree : Tree) → Spells tree self.old.model →
+            EndsAtLimit tree self.old.line.items (S.left input.old) (S.left input.new) (K.written out.old) (K.written out.new) result }
+        ensures input_counted { Counts (S.faults input.old) (S.faults input.new) (is_read_fault result) }
+        ensures out_counted { Counts (K.faults out.old) (K.faults out.new) (is_write_fault result) }
+    {
+        let mut byte = [0u8; 1];
+        match input.take(&mut byte) {
+            Err(Failed) => Status::ReadFault,
+            Ok(0) => self.finish(out),
+            Ok(_) => Status::TooMuchInput,
+        }
     }
 
     /// Answers the lines that end in a piece, and keeps what has come of the next.
@@ -75,15 +127,19 @@ impl Script {
     }
 
     /// Answers the bytes behind the last line end, where there are any.
-    pub(crate) fn finish<K: Sink>(&mut self, out: &mut K) -> Result<(), PutFault>
+    fn finish<K: Sink>(&mut self, out: &mut K) -> Status
         ensures replies { (tree : Tree) → Spells tree self.old.model →
-            Puts (K.written out.old) (K.written out.new) (replies_to tree (last_line self.old.line.items)) result }
-        ensures counted { Counts (K.faults out.old) (K.faults out.new) (put_failed result) }
+            PutsLast (K.written out.old) (K.written out.new) (replies_to tree (last_line self.old.line.items)) Status.Done result }
+        ensures counted { Counts (K.faults out.old) (K.faults out.new) (is_write_fault result) }
+        ensures no_read { IsFalse (is_read_fault result) }
     {
         if self.line.is_empty() {
-            return Ok(());
+            return Status::Done;
         }
-        put_answer(self.alloc, &self.model, &mut self.chosen, &self.line, out)
+        match put_answer(self.alloc, &self.model, &mut self.chosen, &self.line, out) {
+            Ok(()) => Status::Done,
+            Err(fault) => Status::from(fault),
+        }
     }
 }
 
@@ -104,4 +160,25 @@ fn put_answer<K: Sink>(
         None => Ok(()),
         Some(reply) => out.put(alloc, reply.text().as_bytes()),
     }
+}
+
+/// Answers the lines of a script as they come, to its end.
+pub(crate) fn answer_script<S: Source, K: Sink>(
+    alloc: Global,
+    model: Model,
+    input: &mut S,
+    out: &mut K,
+) -> Status
+    ensures script { (tree : Tree) → Spells tree model →
+        AnswersScript tree (S.left input.old) (S.left input.new) (K.written out.old) (K.written out.new) result }
+    ensures input_counted { Counts (S.faults input.old) (S.faults input.new) (is_read_fault result) }
+    ensures out_counted { Counts (K.faults out.old) (K.faults out.new) (is_write_fault result) }
+{
+    let Ok(mut script) = Script::new(alloc, model) else {
+        return Status::NoMemory;
+    };
+    let Ok(mut buffer) = vec![in alloc; 0u8; PIECE_BYTES] else {
+        return Status::NoMemory;
+    };
+    script.read(&mut buffer, input, out)
 }

@@ -2,6 +2,8 @@
 ghost use Rattle.std.specs.Prelude.{◌≡◌};
 ghost use Rattle.uvl_run.specs.Status.{number_of};
 
+use uvl_outside::PutFault;
+
 /// How a run ends. The number is the exit status of the program.
 #[derive(Clone, Copy, Debug, PartialEq, Eq)]
 pub enum Status {
@@ -34,6 +36,21 @@ impl Status {
             Status::WriteFault => 5,
             Status::NoMemory => 7,
             Status::TooMuchInput => 8,
+        }
+    }
+}
+
+/// A fault of the sink ends the run.
+impl From<PutFault> for Status {
+    ghost use Rattle.std.specs.Prelude.{◌≡◌};
+    ghost use Rattle.uvl_run.specs.Status.{status_of};
+
+    ghost from_gives = { λ fault status. status ≡ status_of fault };
+
+    fn from(fault: PutFault) -> Status {
+        match fault {
+            PutFault::Failed => Status::WriteFault,
+            PutFault::OutOfMemory => Status::NoMemory,
         }
     }
 }

@@ -1,0 +1,10 @@
+-- The script is read with the model that was given.
+use Rattle.std.proofs.Common.{sym, subst}
+use Rattle.uvl_model.specs.Rows.{Rows}
+use Rattle.uvl_model.specs.Spelling.{Spells}
+use Rattle.uvl_run.proofs.script.answer_script.Goals as goal
+
+pub returns-clause-script : goal.returns-clause-script
+returns-clause-script g c = λ tree spells.
+    let Q : Rows → Type 0 = λ model. Spells tree model in
+    c.read.ensures.script tree (subst Q (sym c.in-Ok.ensures.0) spells)

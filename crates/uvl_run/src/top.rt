@@ -1,0 +1,75 @@
+//! The top call.
+ghost use Rattle.std.specs.Prelude.{◌≡◌, IfOk, IsFalse, map, string_bytes};
+ghost use Rattle.uvl_outside.specs.Faults.{Counts};
+ghost use Rattle.uvl_run.specs.Loading.{at_front};
+ghost use Rattle.uvl_run.specs.Run.{Answers, CountsReads, fault_line};
+ghost use Rattle.uvl_run.specs.Status.{PutsLast, is_read_fault, is_write_fault};
+
+use crate::Status;
+use crate::command_line::{USAGE_LINE, model_path};
+use crate::load::{LoadFault, load_model};
+use crate::script::answer_script;
+use std::alloc::{AllocError, Global};
+use uvl_base::{FaultKind, ModelFault, Place, Text};
+use uvl_outside::{Files, Sink, Source};
+
+/// Reads the model that the words name, and answers the script line by line.
+pub fn run<F: Files, S: Source, K: Sink>(
+    alloc: Global,
+    words: &[&str],
+    files: &mut F,
+    input: &mut S,
+    out: &mut K,
+) -> Status
+    ensures answers { Answers (map (λ word. word.now) words.now) (F.told files.old) (S.left input.old) (S.left input.new) (K.written out.old) (K.written out.new) result }
+    ensures reads_counted { CountsReads (F.faults files.old) (F.faults files.new) (S.faults input.old) (S.faults input.new) result }
+    ensures writes_counted { Counts (K.faults out.old) (K.faults out.new) (is_write_fault result) }
+    ensures same_files { F.told files.new ≡ F.told files.old }
+{
+    let Some(path) = model_path(words) else {
+        return write_last(alloc, USAGE_LINE, Status::Usage, out);
+    };
+    match load_model(alloc, files, path) {
+        Ok(model) => answer_script(alloc, model, input, out),
+        Err(LoadFault::Model(kind)) => report(alloc, path, kind, out),
+        Err(LoadFault::Host) => Status::ReadFault,
+        Err(LoadFault::OutOfMemory) => Status::NoMemory,
+    }
+}
+
+/// Writes the fault line of a fault at the front of a file.
+fn report<K: Sink>(alloc: Global, path: &str, kind: FaultKind, out: &mut K) -> Status
+    ensures line { PutsLast (K.written out.old) (K.written out.new) (fault_line (at_front path.now kind)) Status.Model result }
+    ensures counted { Counts (K.faults out.old) (K.faults out.new) (is_write_fault result) }
+    ensures no_read { IsFalse (is_read_fault result) }
+{
+    match line_of(alloc, path, kind) {
+        Ok(line) => write_last(alloc, line.as_str(), Status::Model, out),
+        Err(_) => Status::NoMemory,
+    }
+}
+
+/// The fault line of a fault at the front of a file.
+#[tactic(auto, unfolding(crate::specs::Run::fault_line))]
+fn line_of(alloc: Global, path: &str, kind: FaultKind) -> Result<String, AllocError>
+    ensures { IfOk result (λ line. string_bytes line ≡ fault_line (at_front path.now kind)) }
+{
+    let file = Text::new(alloc, path)?;
+    let place = Place { line: 1, column: 1 };
+    let fault = ModelFault { file, place, kind };
+    format!(in alloc; "fault {fault}\n")
+}
+
+/// Writes the last text of a run, which then has this status.
+fn write_last<K: Sink>(alloc: Global, text: &str, whole: Status, out: &mut K) -> Status
+    requires no_write { IsFalse (is_write_fault whole) }
+    requires no_read { IsFalse (is_read_fault whole) }
+    ensures text { PutsLast (K.written out.old) (K.written out.new) text.now whole result }
+    ensures counted { Counts (K.faults out.old) (K.faults out.new) (is_write_fault result) }
+    ensures no_read { IsFalse (is_read_fault result) }
+{
+    match out.put(alloc, text.as_bytes()) {
+        Ok(()) => whole,
+        Err(fault) => Status::from(fault),
+    }
+}
