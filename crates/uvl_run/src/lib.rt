@@ -4,3 +4,4 @@
 mod lines;
 mod reply;
 mod thin;
+mod words;
