@@ -1,5 +1,5 @@
--- What a mark for each feature says of a row: the plain check reads the rows of the groups alone.
-use Rattle.std.specs.Prelude.{ℕ, ◌+◌, ◌==◌, Bool, false, ◌&&◌, nat_le, List, [], ◌∷◌, if◌then◌else◌, slice_get, unwrap_or}
+-- What a mark for each feature says of a group: the plain check reads the rows of the groups alone.
+use Rattle.std.specs.Prelude.{ℕ, ◌==◌, Bool, false, ◌&&◌, nat_le, List, if◌then◌else◌, slice_get, unwrap_or, count_by}
 use Rattle.uvl_model.specs.declared.rows.FeatureNo.{FeatureNo}
 use Rattle.uvl_model.specs.declared.rows.GroupRow.{GroupRow}
 
@@ -9,8 +9,7 @@ is_marked marks f = unwrap_or (slice_get marks f.0) false
 
 -- how many of the features are marked
 abbrev pub marked_count : List Bool → List FeatureNo → ℕ
-marked_count marks [] = 0
-marked_count marks (f ∷ fs) = (if is_marked marks f then 1 else 0) + marked_count marks fs
+marked_count marks features = count_by (is_marked marks) features
 
 -- of a group's members from lo to hi are marked where its parent is, and none is elsewhere
 abbrev pub group_holds : List Bool → GroupRow → Bool
