@@ -1,0 +1,4 @@
+pub mod Families
+pub mod Fitting
+pub mod Marks
+pub mod Membership
