@@ -2,3 +2,5 @@ pub mod Families
 pub mod Fitting
 pub mod Marks
 pub mod Membership
+pub mod NameKeys
+pub mod Places
