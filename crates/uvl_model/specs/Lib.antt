@@ -1,3 +1,5 @@
+pub mod Check
+pub mod Names
 pub mod Product
 pub mod Rows
 pub mod Sound

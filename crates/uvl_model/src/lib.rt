@@ -2,8 +2,11 @@
 //! one set of features against them.
 #![tactic(auto)]
 
+mod check;
 mod model;
+mod names;
 mod rows;
 
 pub use model::Model;
+pub use names::NameIndex;
 pub use rows::{FeatureNo, FeatureRow, GroupRow};

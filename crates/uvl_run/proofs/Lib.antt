@@ -1,7 +1,12 @@
 pub mod Cutting
+pub mod Finding
 pub mod FirstLine
+pub mod FirstWord
 pub mod Loads
+pub mod Marking
+pub mod PlainWords
 pub mod Progress
 pub mod Runs
+pub mod Sets
 pub mod SoFar
 pub mod Told

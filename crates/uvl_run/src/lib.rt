@@ -10,6 +10,7 @@ mod script;
 mod status;
 mod thin;
 mod top;
+mod words;
 
 pub use status::Status;
 pub use top::run;

@@ -1,0 +1,6 @@
+pub mod Families
+pub mod Fitting
+pub mod Marks
+pub mod Membership
+pub mod NameKeys
+pub mod Places
