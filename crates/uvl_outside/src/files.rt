@@ -4,8 +4,8 @@ ghost use Rattle.uvl_outside.specs.Faults.{Counts};
 ghost use Rattle.uvl_outside.specs.Files.{Fetches, fetch_failed};
 ghost use Rattle.uvl_outside.specs.declared.files.FetchFault.TheVariants.{Failed as HostFailed, OutOfMemory as Starved};
 
-use crate::source::Failed;
 use std::alloc::{AllocError, Global};
+use std::io;
 
 /// Memory is wanting.
 pub type OutOfMemory = AllocError;
@@ -38,10 +38,10 @@ impl From<AllocError> for FetchFault {
     }
 }
 
-impl From<Failed> for FetchFault {
+impl From<io::Error> for FetchFault {
     ghost from_gives = { λ _ fault. fault ≡ HostFailed };
 
-    fn from(_fault: Failed) -> FetchFault {
+    fn from(_error: io::Error) -> FetchFault {
         FetchFault::Failed
     }
 }

@@ -1,5 +1,7 @@
 // The files of the host.
 ghost use Rattle.std.specs.Prelude.{◌≡◌, None, [], Option};
+ghost use Rattle.std.specs.IoError.{error_kind};
+ghost use Rattle.uvl_outside.specs.Absence.{is_absence};
 ghost use Rattle.uvl_outside.specs.Files.{Fetches};
 
 use crate::files::{FetchFault, Fetched, Files};
@@ -63,7 +65,9 @@ fn read_file<R: rt::Files>(
 
 // Whether a file couldn't be opened since there is none: neither at the path, nor where the path leads
 // through a file, nor where it has a NUL or is too long.
-fn is_absence(error: &io::Error) -> bool {
+fn is_absence(error: &io::Error) -> bool
+    ensures { result ≡ is_absence (error_kind error.now) }
+{
     matches!(
         error.kind(),
         io::ErrorKind::NotFound

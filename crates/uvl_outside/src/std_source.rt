@@ -1,7 +1,7 @@
 // A source over a reader of the standard library, as standard input.
 ghost use Rattle.std.specs.Prelude.{◌≡◌};
 
-use crate::reading::read_some;
+use crate::reading::read_retrying;
 use crate::source::{Failed, Source};
 use std::io::Read;
 
@@ -28,10 +28,12 @@ impl<R: Read> Source for StdSource<R> {
     ghost faults = { λ source. source.faults };
 
     fn take(&mut self, into: &mut [u8]) -> Result<usize, Failed> {
-        let taken = read_some(&mut self.reader, into);
-        if taken.is_err() {
-            self.faults = self.faults.saturating_add(1);
+        match read_retrying(&mut self.reader, into) {
+            Ok(count) => Ok(count),
+            Err(_) => {
+                self.faults = self.faults.saturating_add(1);
+                Err(Failed)
+            }
         }
-        taken
     }
 }
