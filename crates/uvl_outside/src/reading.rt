@@ -47,7 +47,7 @@ fn read_past<R: Read>(reader: &mut R, limit: usize, into: &mut Vec<u8>) -> Resul
         (Consumes (R.remaining reader.old) (R.remaining reader.new) into.new.items) }
     ensures whole { OnOk result (length into.new.items ≤ limit
         → IfSome (R.remaining reader.old) (λ bytes. into.new.items ≡ bytes)) }
-    ensures least { ConsumesAtMost (R.remaining reader.old) (R.remaining reader.new) (limit + 1) }
+    ensures no_further { ConsumesAtMost (R.remaining reader.old) (R.remaining reader.new) (limit + 1) }
 {
     let mut piece = [0; PIECE];
     while into.len() <= limit {
@@ -70,7 +70,7 @@ pub fn read_whole<R: Read>(
 ) -> Result<Fetched, FetchFault>
     requires { into.old.items ≡ [] }
     ensures whole { ReadsWhole (R.remaining reader.old) limit into.new.items result }
-    ensures least { ConsumesAtMost (R.remaining reader.old) (R.remaining reader.new) (limit + 1) }
+    ensures no_further { ConsumesAtMost (R.remaining reader.old) (R.remaining reader.new) (limit + 1) }
 {
     let read = read_past(reader, limit, into);
     if read.is_ok() && into.len() <= limit {
