@@ -15,6 +15,6 @@ abbrev pub AppendsFront : Option (List ℕ) → Option (List ℕ) → List ℕ �
 AppendsFront before now piece = (count : ℕ) × Appends before now (take count piece)
 
 -- what an answer of `put` says: the whole piece was written, or only a front of it
-abbrev pub Puts : {T : Type 0} → Option (List ℕ) → Option (List ℕ) → List ℕ → Result T PutFault → Type 0
+abbrev pub Puts : {T E : Type 0} → Option (List ℕ) → Option (List ℕ) → List ℕ → Result T E → Type 0
 Puts before now piece (Ok _) = Appends before now piece
 Puts before now piece (Err _) = AppendsFront before now piece

@@ -1,7 +1,6 @@
 -- What the answers of `take` say of the bytes that a source has left. This project's own.
 use Rattle.std.specs.Prelude.{◌≡◌, ◌↔◌, ℕ, List, [], take, Option, IfSome, Result, Ok, Err}
 use Rattle.std.specs.Io.KnownBytes.{Consumes, Keeps}
-use Rattle.uvl_outside.specs.declared.source.Failed.{Failed}
 
 -- the buffer's first `count` bytes were taken from the front of what was left, and there are none exactly at the end
 pub record TakesFront (before now : Option (List ℕ)) (into : List ℕ) (count : ℕ) : Type 0 where
@@ -9,6 +8,6 @@ pub record TakesFront (before now : Option (List ℕ)) (into : List ℕ) (count 
   pub none_at_end : IfSome before (λ left. (count ≡ 0) ↔ (left ≡ []))
 
 -- what an answer of `take` says of what was left before the call and of what is left now
-abbrev pub Takes : Option (List ℕ) → Option (List ℕ) → List ℕ → Result ℕ Failed → Type 0
+abbrev pub Takes : {E : Type 0} → Option (List ℕ) → Option (List ℕ) → List ℕ → Result ℕ E → Type 0
 Takes before now into (Ok count) = TakesFront before now into count
 Takes before now into (Err _) = Keeps before now

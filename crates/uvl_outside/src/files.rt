@@ -2,9 +2,10 @@
 ghost use Rattle.std.specs.Prelude.{◌≡◌, ℕ, List, [], Option};
 ghost use Rattle.uvl_outside.specs.Faults.{Counts};
 ghost use Rattle.uvl_outside.specs.Files.{Fetches, fetch_failed};
-ghost use Rattle.uvl_outside.specs.declared.files.FetchFault.TheVariants.{OutOfMemory as Starved};
+ghost use Rattle.uvl_outside.specs.declared.files.FetchFault.TheVariants.{Failed as HostFailed, OutOfMemory as Starved};
 
 use std::alloc::{AllocError, Global};
+use std::io;
 
 /// Memory is wanting.
 pub type OutOfMemory = AllocError;
@@ -34,6 +35,14 @@ impl From<AllocError> for FetchFault {
 
     fn from(_error: AllocError) -> FetchFault {
         FetchFault::OutOfMemory
+    }
+}
+
+impl From<io::Error> for FetchFault {
+    ghost from_gives = { λ _ fault. fault ≡ HostFailed };
+
+    fn from(_error: io::Error) -> FetchFault {
+        FetchFault::Failed
     }
 }
 

@@ -1,0 +1,6 @@
+-- The failed reads so far took nothing.
+use Rattle.std.specs.Io.KnownBytes.{Keeps}
+use Rattle.uvl_outside.proofs.reading.read_retrying.Given as goal
+
+abbrev pub invariant-loop : goal.invariant-loop
+invariant-loop g l = Keeps (g.R.Read.remaining l.initial.reader) (g.R.Read.remaining l.reader)

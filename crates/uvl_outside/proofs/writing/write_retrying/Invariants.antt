@@ -1,0 +1,6 @@
+-- The failed writes so far wrote nothing.
+use Rattle.std.specs.Io.KnownBytes.{Keeps}
+use Rattle.uvl_outside.proofs.writing.write_retrying.Given as goal
+
+abbrev pub invariant-loop : goal.invariant-loop
+invariant-loop g l = Keeps (g.W.Write.contents l.initial.writer) (g.W.Write.contents l.writer)

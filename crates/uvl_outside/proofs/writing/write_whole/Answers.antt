@@ -1,0 +1,8 @@
+use Rattle.std.proofs.Common.{arith}
+use Rattle.std.proofs.lemmas.Grind.{common_steps}
+use Rattle.uvl_outside.proofs.Streams.{appends_further}
+use Rattle.uvl_outside.proofs.writing.write_whole.Goals as goal
+
+pub loop-done-preserved : goal.loop-done-preserved
+loop-done-preserved g c =
+    (grind (arith, common_steps), appends_further _ _ _ _ _ _ _ (grind (arith, common_steps)) c.loop-done.invariant.1 c.in_ok-count.ensures.appends)
