@@ -1,4 +1,5 @@
 pub mod Cutting
+pub mod Exactly
 pub mod Finding
 pub mod FirstLine
 pub mod FirstWord

@@ -1,4 +1,5 @@
 pub mod CommandLine
+pub mod Exactly
 pub mod Lines
 pub mod LoadFaults
 pub mod Loading

@@ -1,6 +1,7 @@
 //! The top call.
 ghost use Rattle.std.specs.Prelude.{◌≡◌, IfOk, IsFalse, map, string_bytes};
 ghost use Rattle.uvl_outside.specs.Faults.{Counts};
+ghost use Rattle.uvl_run.specs.Exactly.{IsExact};
 ghost use Rattle.uvl_run.specs.Loading.{at_front};
 ghost use Rattle.uvl_run.specs.Run.{Answers, CountsReads, fault_line};
 ghost use Rattle.uvl_run.specs.Status.{PutsLast, is_read_fault, is_write_fault};
@@ -13,8 +14,31 @@ use std::alloc::{AllocError, Global};
 use uvl_base::{FaultKind, ModelFault, Place, Text};
 use uvl_outside::{Files, Sink, Source};
 
-/// Reads the model that the words name, and answers the script line by line.
+/// Reads the model that the words name, and answers the script line by line: whatever is told of
+/// the files and of the input, and however the input is cut, the bytes that are written and the
+/// status are those of a run. Each reply is written by one call of `put`, before more input is taken.
 pub fn run<F: Files, S: Source, K: Sink>(
+    alloc: Global,
+    words: &[&str],
+    files: &mut F,
+    input: &mut S,
+    out: &mut K,
+) -> Status
+    // What was written answers what was taken, and each status has its cause.
+    ensures answers { Answers (map (λ word. word.now) words.now) (F.told files.old) (S.left input.old) (S.left input.new) (K.written out.old) (K.written out.new) result }
+    // Where a cause is, its status comes, unless a counted fault or want of memory is in the way.
+    ensures exactly { IsExact (map (λ word. word.now) words.now) (F.told files.old) (S.left input.old) result }
+
+    // The first fault ends the run, so no count rose where the status is no fault.
+    ensures reads_counted { CountsReads (F.faults files.old) (F.faults files.new) (S.faults input.old) (S.faults input.new) result }
+    ensures writes_counted { Counts (K.faults out.old) (K.faults out.new) (is_write_fault result) }
+    ensures same_files { F.told files.new ≡ F.told files.old }
+{
+    answer_words(alloc, words, files, input, out)
+}
+
+/// One way through a run for each thing that the words may name.
+fn answer_words<F: Files, S: Source, K: Sink>(
     alloc: Global,
     words: &[&str],
     files: &mut F,
