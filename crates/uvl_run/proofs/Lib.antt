@@ -3,6 +3,7 @@ pub mod Exactly
 pub mod Finding
 pub mod FirstLine
 pub mod FirstWord
+pub mod InMemory
 pub mod Loads
 pub mod Marking
 pub mod PlainWords

@@ -3,6 +3,7 @@
 
 mod answer;
 mod command_line;
+mod in_memory;
 mod lines;
 mod load;
 mod reply;
@@ -12,5 +13,6 @@ mod thin;
 mod top;
 mod words;
 
+pub use in_memory::run_in_memory;
 pub use status::Status;
 pub use top::run;

@@ -1,0 +1,32 @@
+-- The run over files, a script and a sink in memory: what it writes and its status, by the files and the script alone.
+use Rattle.std.specs.Prelude.{◌≡◌, ℕ, ◌<◌, ◌≤◌, ⊤, List, length, take, Some}
+use Rattle.uvl_outside.specs.Files.{Contents}
+use Rattle.uvl_base.specs.declared.fault.FaultKind.{FaultKind}
+use Rattle.uvl_model.specs.Tree.{Tree}
+use Rattle.uvl_run.specs.declared.status.Status.{Status}
+use Rattle.uvl_run.specs.declared.status.Status.TheVariants.{Done, Usage, Model, ReadFault, WriteFault, NoMemory, TooMuchInput}
+use Rattle.uvl_run.specs.CommandLine.{model_path, usage_line}
+use Rattle.uvl_run.specs.Lines.{ended_lines, script_lines}
+use Rattle.uvl_run.specs.Loading.{IsModelOf, HasFault, at_front}
+use Rattle.uvl_run.specs.Replies.{replies_to}
+use Rattle.uvl_run.specs.Run.{IsRefused, fault_line}
+use Rattle.uvl_run.specs.Script.{most_script_bytes}
+
+-- the words name the model of a tree
+abbrev pub NamesModel : List (List ℕ) → Contents → Tree → Type 0
+NamesModel words contents tree = (path : List ℕ) × (model_path words ≡ Some path) × IsModelOf (contents path) tree
+
+-- Refused words give the usage line, and a fault of the model its line. Else the lines of the script have
+-- their replies: all of them, or those that end within the bytes that a script may have.
+abbrev pub IsRun : List (List ℕ) → Contents → List ℕ → List ℕ → Status → Type 0
+IsRun words contents script said Done =
+    (tree : Tree) × NamesModel words contents tree × (length script ≤ most_script_bytes) × (said ≡ replies_to tree (script_lines script))
+IsRun words contents script said Usage = IsRefused words × (said ≡ usage_line)
+IsRun words contents script said Model =
+    (path : List ℕ) × (kind : FaultKind) × (model_path words ≡ Some path) × HasFault (contents path) kind × (said ≡ fault_line (at_front path kind))
+IsRun words contents script said ReadFault = ⊥
+IsRun words contents script said WriteFault = ⊥
+IsRun words contents script said NoMemory = ⊤
+IsRun words contents script said TooMuchInput =
+    (tree : Tree) × NamesModel words contents tree × (most_script_bytes < length script)
+    × (said ≡ replies_to tree (ended_lines (take most_script_bytes script)))
