@@ -5,7 +5,6 @@ ghost use Rattle.uvl_model.specs.Examples.{thin_tree, thin_rows, two_or_three, u
 use crate::{FeatureNo, FeatureRow, GroupRow, Model, NameIndex};
 use sqlite_items::Items;
 use std::alloc::Global;
-use std::process::Abort;
 use std::test::Fail;
 use uvl_base::Name;
 
@@ -66,19 +65,19 @@ fn thin_groups(alloc: Global) -> Result<Items<GroupRow>, Fail>
     Ok(groups)
 }
 
-fn thin_model(rt: &impl Abort, alloc: Global) -> Result<Model, Fail>
+fn thin_model(alloc: Global) -> Result<Model, Fail>
     ensures { IfOk result (λ model. model ≡ thin_rows) }
 {
     let mut names = NameIndex::new(alloc);
-    assert!(rt; names.add("Car")?);
-    assert!(rt; names.add("Body")?);
-    assert!(rt; names.add("Radio")?);
+    names.add("Car")?;
+    names.add("Body")?;
+    names.add("Radio")?;
     Ok(Model::new(names, thin_features(alloc)?, thin_groups(alloc)?))
 }
 
 #[test]
 fn a_thin_model_finds_its_features_and_knows_its_products(rt: HostRuntime) -> Result<(), Fail> {
-    let model = thin_model(&rt, rt.alloc())?;
+    let model = thin_model(rt.alloc())?;
     assert_eq!(rt; model.find("Car"), Some(FeatureNo(0)));
     assert_eq!(rt; model.find("Radio"), Some(FeatureNo(2)));
     assert_eq!(rt; model.find("Wheel"), None);
