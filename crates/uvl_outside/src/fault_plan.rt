@@ -19,7 +19,11 @@ pub struct FaultPlan {
 impl Model for FaultPlan {
     ghost Value = { Plan };
 
-    ghost view = { λ plan. record { fail = plan.fail.items; answered = plan.answered; faults = plan.faults } };
+    ghost view = { λ plan. record {
+      fail = plan.fail.items;
+      answered = plan.answered;
+      faults = plan.faults;
+    } };
 }
 
 impl FaultPlan {

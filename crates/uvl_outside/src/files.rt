@@ -6,6 +6,7 @@ ghost use Rattle.uvl_outside.specs.declared.files.FetchFault.TheVariants.{Failed
 
 use std::alloc::{AllocError, Global};
 use std::io;
+use thiserror::Error;
 
 /// Memory is wanting.
 pub type OutOfMemory = AllocError;
@@ -22,11 +23,13 @@ pub enum Fetched {
 }
 
 /// Why a file was not fetched.
-#[derive(Clone, Copy, Debug, PartialEq, Eq)]
+#[derive(Clone, Copy, Debug, PartialEq, Eq, Error)]
 pub enum FetchFault {
     /// The host failed, which is counted.
+    #[error("the file could not be read")]
     Failed,
     /// Memory is wanting, which is not counted.
+    #[error("out of memory")]
     OutOfMemory,
 }
 
@@ -54,8 +57,8 @@ pub trait Files {
     /// How many faults it has answered.
     ghost faults: { Self → ℕ };
 
-    /// Reads the file at `path`, of at most `limit` bytes, into an empty buffer. After any other
-    /// answer than `Whole` the buffer is empty.
+    /// Reads the file at `path` into an empty buffer, where it has at most `limit` bytes. After any
+    /// other answer than `Whole` the buffer is empty.
     fn fetch(
         &mut self,
         alloc: Global,

@@ -63,8 +63,8 @@ fn read_file<R: rt::Files>(
     }
 }
 
-// Whether a file couldn't be opened since there is none: neither at the path, nor where the path leads
-// through a file, nor where it has a NUL or is too long.
+// Whether a file couldn't be opened since there is none. So it is at a path that leads through a
+// file too, and at one with a NUL or that is too long.
 fn is_absence(error: &io::Error) -> bool
     ensures { result ≡ is_absence (error_kind error.now) }
 {

@@ -35,9 +35,9 @@ impl Model for MemSource {
 }
 
 impl MemSource {
-    /// A source of a copy of these bytes. Each call gives at most the next size, where 0 counts as 1,
-    /// and behind the sizes as many bytes as fit. The calls with the numbers of `fail`, from 1, fail,
-    /// and use no size.
+    /// A source of a copy of these bytes. Each call gives at most the next size, where 0 counts as
+    /// 1, and behind the sizes as many bytes as fit. The calls with the numbers of `fail`, from 1,
+    /// fail, and use no size.
     pub fn new(
         alloc: Global,
         bytes: &[u8],

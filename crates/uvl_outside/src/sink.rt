@@ -5,13 +5,16 @@ ghost use Rattle.uvl_outside.specs.Sink.{Puts, put_failed};
 ghost use Rattle.uvl_outside.specs.declared.sink.PutFault.TheVariants.{OutOfMemory as Starved};
 
 use std::alloc::{AllocError, Global};
+use thiserror::Error;
 
 /// Why a piece was not written whole.
-#[derive(Clone, Copy, Debug, PartialEq, Eq)]
+#[derive(Clone, Copy, Debug, PartialEq, Eq, Error)]
 pub enum PutFault {
     /// The host failed, which is counted.
+    #[error("the output could not be written")]
     Failed,
     /// Memory is wanting, which is not counted.
+    #[error("out of memory")]
     OutOfMemory,
 }
 

@@ -3,8 +3,11 @@ ghost use Rattle.std.specs.Prelude.{ℕ, ◌<◌, ◌≤◌, List, length, Optio
 ghost use Rattle.uvl_outside.specs.Faults.{Counts};
 ghost use Rattle.uvl_outside.specs.Source.{Takes};
 
+use thiserror::Error;
+
 /// The host failed, which is counted.
-#[derive(Clone, Copy, Debug, PartialEq, Eq)]
+#[derive(Clone, Copy, Debug, PartialEq, Eq, Error)]
+#[error("the input could not be read")]
 pub struct Failed;
 
 /// What gives bytes.
@@ -15,8 +18,8 @@ pub trait Source {
     /// How many faults it has answered.
     ghost faults: { Self → ℕ };
 
-    /// Moves at least one and at most `into.len()` bytes from the front of what is left to the front
-    /// of the buffer, and answers how many. It answers 0 exactly where nothing is left.
+    /// Moves at least one and at most `into.len()` bytes from the front of what is left to the
+    /// front of the buffer, and answers how many. It answers 0 exactly where nothing is left.
     fn take(&mut self, into: &mut [u8]) -> Result<usize, Failed>
         requires { 0 < length into.old }
         ensures within { IfOk result (λ count. count ≤ length into.new) }

@@ -6,8 +6,8 @@ use crate::writing::write_whole;
 use std::alloc::Global;
 use std::io::Write;
 
-/// A sink over a writer of the standard library, as standard output. It tells what the writer tells.
-/// A piece has left the writer when `put` answers `Ok`.
+/// A sink over a writer of the standard library, as standard output, which tells what the writer
+/// tells. A piece has left the writer when `put` answers `Ok`.
 #[derive(Debug, Drop)]
 pub struct StdSink<W> {
     writer: W,

@@ -5,7 +5,8 @@ use crate::reading::read_retrying;
 use crate::source::{Failed, Source};
 use std::io::Read;
 
-/// A source over a reader of the standard library, as standard input. It tells what the reader tells.
+/// A source over a reader of the standard library, as standard input, which tells what the reader
+/// tells.
 #[derive(Debug, Drop)]
 pub struct StdSource<R> {
     reader: R,
