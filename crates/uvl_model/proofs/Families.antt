@@ -15,7 +15,6 @@ use Rattle.uvl_model.proofs.Fitting.{tree_holds}
 use Rattle.uvl_model.proofs.Marks.{AgreeFrom, marks_agree, given_marks_agree}
 use Rattle.uvl_model.proofs.Membership.{marked_within}
 
-
 mutual
   -- the rows of a tree have its names
   names_spelled : (tree : Tree) (parent : Option FeatureNo) (n : ℕ) → map (λ (row : FeatureRow). row.name) (feature_rows parent n tree) ≡ names_of tree

@@ -71,13 +71,16 @@ module _ (marks : List Bool) (set : List (List ℕ)) where
     groups_hold (group lo hi members others) parent n b e h =
         let parts = agree_parts marks set (names_of_members members) (names_of_groups others) n h in
         let behind = n + size_of_members members in
-        rw (list_all-append (group_holds marks) (group_rows_of_members n members) (group_rows_of_groups parent behind others),
-            list_all-append (λ x. not (has set x)) (names_of_members members) (names_of_groups others),
-            e, chosen_is members n parts.0)
+        rw (
+          list_all-append (group_holds marks) (group_rows_of_members n members) (group_rows_of_groups parent behind others),
+          list_all-append (λ x. not (has set x)) (names_of_members members) (names_of_groups others),
+          e,
+          chosen_is members n parts.0,
+        )
         (group_case b _ _ (members_fit members set) (list_all (λ x. not (has set x)) (names_of_members members))
-            (groups_fit others set) (list_all (λ x. not (has set x)) (names_of_groups others))
-            (nat_le lo (chosen_count members set) && nat_le (chosen_count members set) hi) (chosen_count members set == 0)
-            (members_hold members n parts.0) (none_held members n parts.0) (groups_hold others parent behind b e parts.1))
+        (groups_fit others set) (list_all (λ x. not (has set x)) (names_of_groups others))
+        (nat_le lo (chosen_count members set) && nat_le (chosen_count members set) hi) (chosen_count members set == 0)
+        (members_hold members n parts.0) (none_held members n parts.0) (groups_hold others parent behind b e parts.1))
 
     -- the rows of the trees of members, each by whether it is chosen
     members_hold : (members : Members) (n : ℕ) → AgreeFrom marks set n (names_of_members members)
@@ -93,6 +96,8 @@ module _ (marks : List Bool) (set : List (List ℕ)) where
     none_held no_members n h = refl
     none_held (member tree others) n h =
         let parts = agree_parts marks set (names_of tree) (names_of_members others) n h in
-        rw (list_all-append (group_holds marks) (group_rows n tree) (group_rows_of_members (n + size_of tree) others),
-            list_all-append (λ x. not (has set x)) (names_of tree) (names_of_members others))
+        rw (
+          list_all-append (group_holds marks) (group_rows n tree) (group_rows_of_members (n + size_of tree) others),
+          list_all-append (λ x. not (has set x)) (names_of tree) (names_of_members others),
+        )
         (none_case (has set (top_name tree)) (chosen_count others set) _ (fits tree set) _ _ _ (tree_holds tree n parts.0) (absent_top tree) (none_held others (n + size_of tree) parts.1))

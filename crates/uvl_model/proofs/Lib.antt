@@ -4,3 +4,4 @@ pub mod Marks
 pub mod Membership
 pub mod NameKeys
 pub mod Places
+pub mod ThinModel

@@ -31,9 +31,10 @@ agree_behind : (b : Bool) (marks : List Bool) (set next : List (List ℕ)) (n : 
     → ((x : List ℕ) → Contains xs x → has next x ≡ has set x) → AgreeFrom marks set n xs → AgreeFrom (b ∷ marks) next (n + 1) xs
 agree_behind b marks set next n [] same h = tt
 agree_behind b marks set next n (x ∷ xs) same h =
-    let here : is_marked marks (numbered n) ≡ is_marked (b ∷ marks) (numbered (n + 1)) = rw (add-one) refl in
-    (same x (Contains-get_or (x ∷ xs) 0 x (omega arith)) ∙ h.0 ∙ here,
-     agree_behind b marks set next (n + 1) xs (λ z c. same z (Contains-append_right (x ∷ []) xs z c)) h.1)
+    let here : is_marked marks (numbered n) ≡ is_marked (b ∷ marks) (numbered (n + 1)) = rw (add-one) refl in (
+      same x (Contains-get_or (x ∷ xs) 0 x (omega arith)) ∙ h.0 ∙ here,
+      agree_behind b marks set next (n + 1) xs (λ z c. same z (Contains-append_right (x ∷ []) xs z c)) h.1,
+    )
 
 -- the marks of distinct names agree with the set of the marked names
 pub marks_agree : (names : List (List ℕ)) (marks : List Bool) → AreDistinct names → length marks ≡ length names → AgreeFrom marks (marked names marks) 0 names
@@ -44,7 +45,7 @@ marks_agree (y ∷ ys) (b ∷ bs) d e =
     let absent = marked_absent ys bs y (has-absent ys y d.0) in
     let head = elim b as (λ v. has (if v then y ∷ marked ys bs else marked ys bs) y ≡ v) [ true ↦ or_left _ _ (bytes_eq-same y) | false ↦ absent ] in
     let others = elim b as (λ v. (x : List ℕ) → Contains ys x → has (if v then y ∷ marked ys bs else marked ys bs) x ≡ has (marked ys bs) x)
-        [ true ↦ λ x c. rw (bytes_eq-other ys x y d.0 c) refl | false ↦ λ x c. refl ] in
+    [ true ↦ λ x c. rw (bytes_eq-other ys x y d.0 c) refl | false ↦ λ x c. refl ] in
     (head, agree_behind b bs (marked ys bs) (if b then y ∷ marked ys bs else marked ys bs) 0 ys others (marks_agree ys bs d.1 fewer))
 
 -- the marks that a set gives to names agree with it

@@ -26,7 +26,7 @@ module _ {Z : Type 0} where
     same_text : (key : String Z) → bytes_eq text (string_bytes key) ≡ bytes_eq (chars text) (chars (string_bytes key))
     same_text key =
         let back : chars text ≡ chars (string_bytes key) → text ≡ string_bytes key =
-            λ e. sym (encodes-chars text utf8) ∙ ap encode_utf8_all e ∙ encodes-chars (string_bytes key) (IsUtf8-string_bytes key) in
+        λ e. sym (encodes-chars text utf8) ∙ ap encode_utf8_all e ∙ encodes-chars (string_bytes key) (IsUtf8-string_bytes key) in
         same_from_decides _ _ (bytes_eq-Decides text (string_bytes key))
         (Decides-like _ back (ap chars) (bytes_eq-Decides (chars text) (chars (string_bytes key))))
 

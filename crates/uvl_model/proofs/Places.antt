@@ -19,11 +19,13 @@ Contains-at names n x e = (n, slice_get_within names n x e, get_or_from_slice_ge
 -- a name that is not there may go last
 pub AreDistinct-push : (names : List (List ℕ)) (x : List ℕ) → AreDistinct names → (Contains names x → ⊥) → AreDistinct (names ++ x ∷ [])
 AreDistinct-push [] x d out = (λ c. absurd (omega (arith, c.1)), tt)
-AreDistinct-push (y ∷ ys) x d out =
-    ((λ c. elim (Contains-push_cases ys x y c)
-        [ inl there ↦ d.0 there
-        | inr same ↦ out (subst (λ (z : List ℕ). Contains (y ∷ ys) z) (sym same) (Contains-get_or (y ∷ ys) 0 y (omega arith))) ]),
-     AreDistinct-push ys x d.1 (λ c. out (Contains-append_right (y ∷ []) ys x c)))
+AreDistinct-push (y ∷ ys) x d out = (
+  (λ c. elim (Contains-push_cases ys x y c) [
+    | inl there ↦ d.0 there
+    | inr same ↦ out (subst (λ (z : List ℕ). Contains (y ∷ ys) z) (sym same) (Contains-get_or (y ∷ ys) 0 y (omega arith)))
+  ]),
+  AreDistinct-push ys x d.1 (λ c. out (Contains-append_right (y ∷ []) ys x c)),
+)
 
 -- each name stands at one place
 only_place : (names : List (List ℕ)) → AreDistinct names → (x : List ℕ) (m n : ℕ) → slice_get names m ≡ Some x → slice_get names n ≡ Some x → m ≡ n
@@ -42,6 +44,7 @@ place_is names x r d q found n = (stands r q, λ e. by r q found e)
     stands s p e =
         let parts = position-Some (bytes_eq x) names n x (sym p ∙ e) in
         slice_get-get_or names n x parts.0 ∙ ap Some (sym ((bytes_eq-Decides x _).0 parts.1))
+
     by : (s : Option ℕ) → s ≡ position (bytes_eq x) names → is_some s ≡ has names x → slice_get names n ≡ Some x → s ≡ Some n
     by None p f e = absurd (false≢true (f ∙ has-from_Contains names x (Contains-at names n x e)))
     by (Some m) p f e =

@@ -1,4 +1,6 @@
 pub mod Check
+pub mod Examples
+pub mod Laws
 pub mod Names
 pub mod Product
 pub mod Rows

@@ -34,7 +34,7 @@ distinct_after c =
 pub invariant_of-self-2 : goal.invariant_of-self-2
 invariant_of-self-2 c =
     let count : length c.insert.new.self.keys ≡ length (c.args.self.now ++ chars c.args.name.now ∷ []) =
-        sym (length-map c.insert.new.self.keys (λ name. chars (string_bytes name))) ∙ ap length (names_after c) in
+    sym (length-map c.insert.new.self.keys (λ name. chars (string_bytes name))) ∙ ap length (names_after c) in
     (distinct_after c, omega (arith, count, length-append c.args.self.now (chars c.args.name.now ∷ []), c.requires))
 
 pub returns-clause-added : goal.returns-clause-added
