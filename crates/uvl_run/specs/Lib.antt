@@ -1,3 +1,4 @@
+pub mod Examples
 pub mod Lines
 pub mod Replies
 pub mod ThinFile

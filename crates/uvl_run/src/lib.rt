@@ -4,5 +4,7 @@
 mod answer;
 mod lines;
 mod reply;
+#[cfg(test)]
+mod tests;
 mod thin;
 mod words;
