@@ -1,5 +1,6 @@
 pub mod CommandLine
 pub mod Exactly
+pub mod Examples
 pub mod InMemory
 pub mod Lines
 pub mod LoadFaults

@@ -16,3 +16,6 @@ mod words;
 pub use in_memory::run_in_memory;
 pub use status::Status;
 pub use top::run;
+
+#[cfg(test)]
+mod tests;
