@@ -1,0 +1,6 @@
+pub mod ThinBytes
+pub mod ThinKinds
+pub mod ThinNames
+pub mod ThinMembers
+pub mod ThinGroups
+pub mod ThinTrees
