@@ -4,3 +4,4 @@ pub mod ThinNames
 pub mod ThinMembers
 pub mod ThinGroups
 pub mod ThinTrees
+pub mod ThinFiles
