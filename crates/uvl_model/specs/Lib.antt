@@ -1,3 +1,7 @@
+pub mod Check
+pub mod Examples
+pub mod Laws
+pub mod Names
 pub mod Product
 pub mod Rows
 pub mod Sound

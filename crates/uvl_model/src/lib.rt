@@ -2,8 +2,16 @@
 //! one set of features against them.
 #![tactic(auto)]
 
+mod check;
+mod laws;
 mod model;
+mod names;
 mod rows;
 
+pub use laws::rows_give_products;
 pub use model::Model;
+pub use names::NameIndex;
 pub use rows::{FeatureNo, FeatureRow, GroupRow};
+
+#[cfg(test)]
+mod tests;

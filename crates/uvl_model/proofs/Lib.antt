@@ -1,0 +1,7 @@
+pub mod Families
+pub mod Fitting
+pub mod Marks
+pub mod Membership
+pub mod NameKeys
+pub mod Places
+pub mod ThinModel

@@ -1,0 +1,38 @@
+-- Small trees, on which the definitions are checked.
+use Rattle.std.specs.Prelude.{ℕ, List, [], ◌∷◌, ◌++◌, None, map, filter, codes}
+use Rattle.uvl_model.specs.Product.{is_product}
+use Rattle.uvl_model.specs.Rows.{Rows}
+use Rattle.uvl_model.specs.Spelling.{feature_rows, group_rows}
+use Rattle.uvl_model.specs.Tree.{Tree, Members, feature, no_groups, group, no_members, member, names_of}
+
+-- members without groups
+abbrev pub leaves : List (List ℕ) → Members
+leaves [] = no_members
+leaves (name ∷ names) = member (feature name no_groups) (leaves names)
+
+-- a car, its mandatory body and an optional radio
+abbrev pub thin_tree : Tree
+thin_tree = feature (codes "Car") (group 1 1 (leaves (codes "Body" ∷ [])) (group 0 1 (leaves (codes "Radio" ∷ [])) no_groups))
+
+-- the rows that spell it
+abbrev pub thin_rows : Rows
+thin_rows = record { features = feature_rows None 0 thin_tree; groups = group_rows 0 thin_tree }
+
+-- a root with the group `[2..9]` over three members, of which hi becomes three
+abbrev pub two_or_three : Tree
+two_or_three = feature (codes "R") (group 2 3 (leaves (codes "A" ∷ codes "B" ∷ codes "C" ∷ [])) no_groups)
+
+-- a root with an optional P, and P with the group `[4..*]` over three members, which none can meet
+abbrev pub unfittable : Tree
+unfittable =
+    feature (codes "R")
+    (group 0 1 (member (feature (codes "P") (group 4 3 (leaves (codes "A" ∷ codes "B" ∷ codes "C" ∷ [])) no_groups)) no_members) no_groups)
+
+-- all sets of the names
+abbrev pub sets_of : List (List ℕ) → List (List (List ℕ))
+sets_of [] = [] ∷ []
+sets_of (name ∷ names) = map (λ set. name ∷ set) (sets_of names) ++ sets_of names
+
+-- the products among the sets of a tree's names
+abbrev pub products_of : Tree → List (List (List ℕ))
+products_of tree = filter (is_product tree) (sets_of (names_of tree))
