@@ -1,5 +1,5 @@
 -- The front of a list of bytes: a fixed text, a line, and a line of one name.
-use Rattle.std.proofs.Common.{◌≡◌, ◌==◌, ℕ, ◌+◌, ◌-◌, ◌<◌, ◌≤◌, Bool, true, false, not, ◌&&◌, cond, List, [], ◌∷◌, ◌++◌, length, take, drop, get_or, Option, Some, None, MatchOption, IfSome, IfNone, IsTrue, IsFalse, Bor, refl, sym, ap, subst, ◌∙◌, arith, rules, nat_eq, zero, suc, lit<}
+use Rattle.std.proofs.Common.{◌≡◌, ◌==◌, ℕ, ◌+◌, ◌-◌, ◌<◌, ◌≤◌, Bool, true, false, not, ◌&&◌, cond, List, [], ◌∷◌, ◌++◌, length, take, drop, Option, Some, None, MatchOption, IfSome, IfNone, IsTrue, IsFalse, Bor, refl, sym, ap, subst, ◌∙◌, arith, nat_eq, zero, suc, lit<}
 use Rattle.std.specs.Prelude.{IsUtf8}
 use Rattle.std.specs.List.{list_all, prefix_len, position}
 use Rattle.std.specs.Str.{IsAscii}
@@ -17,7 +17,7 @@ use Rattle.uvl_run.specs.ThinParts.{IsNameLine, is_unbroken}
 abbrev pub Strips : List ℕ → List ℕ → Option (Bor (List ℕ)) → Type 0
 Strips bytes front r =
     MatchOption r (pointwise nat_eq (take (length front) bytes) front ≡ false)
-        (λ x. (pointwise nat_eq (take (length front) bytes) front ≡ true) × (x.now ≡ drop (length front) bytes) × (length x.now + length front ≡ length bytes))
+    (λ x. (pointwise nat_eq (take (length front) bytes) front ≡ true) × (x.now ≡ drop (length front) bytes) × (length x.now + length front ≡ length bytes))
 
 pub behind_found : (bytes front : List ℕ) (r : Option (Bor (List ℕ))) → Strips bytes front r → IfSome r (λ rest. bytes ≡ front ++ rest.now)
 behind_found bytes front None h = tt

@@ -1,5 +1,5 @@
 -- The groups of a thin file, read one after another.
-use Rattle.std.proofs.Common.{◌≡◌, ◌≢◌, ◌==◌, ℕ, ◌+◌, ◌<◌, ◌≤◌, Bool, false, List, [], ◌∷◌, ◌++◌, length, IsTrue, true, refl, sym, ap, subst, ◌∙◌, append_assoc, arith}
+use Rattle.std.proofs.Common.{◌≡◌, ◌≢◌, ◌==◌, ℕ, ◌+◌, ◌<◌, ◌≤◌, Bool, false, List, [], ◌∷◌, ◌++◌, length, true, refl, sym, ap, subst, ◌∙◌, append_assoc, arith}
 use Rattle.std.specs.Prelude.{codes}
 use Rattle.std.proofs.lemmas.Bool.Decides.{nat_tests}
 use Rattle.std.proofs.lemmas.List.{length-append, append-nil}
@@ -88,14 +88,14 @@ unfolding row_of
 group-made old new bytes rest others kind members lo hi line read some count least =
     let counted : hi ≡ length read.found = count ∙ ap length read.numbers ∙ length-numbers_from (length old.names) read.found in
     record {
-        found = record { kind = kind; names = read.found };
-        text = line ∙ ap (kind_line kind) read.text;
-        whole = (names_of_none (length old.names) read.found members read.numbers some, tt);
-        names = read.names;
-        has_row =
-            ap (λ (n : ℕ). row_of n hi members) least
-            ∙ ap (λ (n : ℕ). row_of (least_of kind n) n members) counted
-            ∙ ap (row_of (least_of kind (length read.found)) (length read.found)) read.numbers
+      found = record { kind = kind; names = read.found };
+      text = line ∙ ap (kind_line kind) read.text;
+      whole = (names_of_none (length old.names) read.found members read.numbers some, tt);
+      names = read.names;
+      has_row =
+          ap (λ (n : ℕ). row_of n hi members) least
+          ∙ ap (λ (n : ℕ). row_of (least_of kind n) n members) counted
+          ∙ ap (row_of (least_of kind (length read.found)) (length read.found)) read.numbers;
     }
 
 -- The bytes are groups that may follow the names known.
@@ -120,13 +120,13 @@ first_of_groups [] known rest some text whole thin = absurd (some text)
 first_of_groups (group ∷ groups) known rest some text whole thin =
     let regrouped = subst AreThinNames (sym (append_assoc known group.names (names_in groups))) thin in
     record {
-        group = group;
-        others = lines_of_groups groups [];
-        some = whole.0;
-        text = text;
-        ends = groups-no_member groups;
-        thin = names-front (known ++ group.names) (names_in groups) regrouped;
-        to_come = record { groups = groups; text = refl; whole = whole.1; thin = regrouped }
+      group = group;
+      others = lines_of_groups groups [];
+      some = whole.0;
+      text = text;
+      ends = groups-no_member groups;
+      thin = names-front (known ++ group.names) (names_in groups) regrouped;
+      to_come = record { groups = groups; text = refl; whole = whole.1; thin = regrouped };
     }
 
 -- bytes that are groups and not empty begin with a group
@@ -140,7 +140,7 @@ after_group now new rest others row thin read ends next =
     let found = subst AreThinNames read.names thin.names in
     let same = members_unique next.group.names read.found.names next.others others (names-back now.names next.group.names next.thin) (names-back now.names read.found.names found) next.ends ends lines.1 in
     subst (λ (o : List ℕ). GroupsToCome new.names o) same.1
-        (subst (λ (names : List (List ℕ)). GroupsToCome names next.others) (ap (λ (names : List (List ℕ)). now.names ++ names) same.0 ∙ sym read.names) next.to_come)
+    (subst (λ (names : List (List ℕ)). GroupsToCome names next.others) (ap (λ (names : List (List ℕ)). now.names ++ names) same.0 ∙ sym read.names) next.to_come)
 
 -- one group more
 pub lines_of_groups-push : (groups : List ThinGroup) (group : ThinGroup) (rest : List ℕ) → lines_of_groups (groups ++ group ∷ []) rest ≡ lines_of_groups groups (lines_of_group group rest)
@@ -160,23 +160,23 @@ group_rows_from-push n [] group = ap (λ (m : ℕ). group_row m group ∷ []) (o
 group_rows_from-push n (first ∷ groups) group =
     let count : n + length first.names + length (names_in groups) ≡ n + length (names_in (first ∷ groups)) = omega (arith, length-append first.names (names_in groups)) in
     ap (λ (rows : List GroupRow). group_row n first ∷ rows)
-        (group_rows_from-push (n + length first.names) groups group ∙ ap (λ (m : ℕ). group_rows_from (n + length first.names) groups ++ group_row m group ∷ []) count)
+    (group_rows_from-push (n + length first.names) groups group ∙ ap (λ (m : ℕ). group_rows_from (n + length first.names) groups ++ group_row m group ∷ []) count)
 
 pub groups-push : (old now new : Features) (bytes rest others : List ℕ) (rows : List GroupRow) (row : GroupRow)
     → ReadsGroups old now bytes rows rest → ReadsGroup now new rest row others → ReadsGroups old new bytes (rows ++ row ∷ []) others
 groups-push old now new bytes rest others rows row read next =
     let count : length now.names ≡ length old.names + length (names_in read.found) = ap length read.names ∙ length-append old.names (names_in read.found) in
     record {
-        found = read.found ++ next.found ∷ [];
-        text = read.text ∙ ap (lines_of_groups read.found) next.text ∙ sym (lines_of_groups-push read.found next.found others);
-        whole = whole-push read.found next.found read.whole next.whole;
-        names =
-            next.names ∙ ap (λ (front : List (List ℕ)). front ++ next.found.names) read.names ∙ append_assoc old.names (names_in read.found) next.found.names
-            ∙ ap (λ (names : List (List ℕ)). old.names ++ names) (sym (names_in-push read.found next.found));
-        have_rows =
-            ap (λ (front : List GroupRow). front ++ row ∷ []) read.have_rows
-            ∙ ap (λ (last : GroupRow). group_rows_from (length old.names) read.found ++ last ∷ []) (next.has_row ∙ ap (λ (n : ℕ). group_row n next.found) count)
-            ∙ sym (group_rows_from-push (length old.names) read.found next.found)
+      found = read.found ++ next.found ∷ [];
+      text = read.text ∙ ap (lines_of_groups read.found) next.text ∙ sym (lines_of_groups-push read.found next.found others);
+      whole = whole-push read.found next.found read.whole next.whole;
+      names =
+          next.names ∙ ap (λ (front : List (List ℕ)). front ++ next.found.names) read.names ∙ append_assoc old.names (names_in read.found) next.found.names
+          ∙ ap (λ (names : List (List ℕ)). old.names ++ names) (sym (names_in-push read.found next.found));
+      have_rows =
+          ap (λ (front : List GroupRow). front ++ row ∷ []) read.have_rows
+          ∙ ap (λ (last : GroupRow). group_rows_from (length old.names) read.found ++ last ∷ []) (next.has_row ∙ ap (λ (n : ℕ). group_row n next.found) count)
+          ∙ sym (group_rows_from-push (length old.names) read.found next.found);
     }
 
 -- what the loop over groups keeps
@@ -188,9 +188,9 @@ pub record ReadingGroups (old now : Features) (bytes rest : List ℕ) (rows : Li
 -- it begins with no group
 pub groups-begin : (old : Features) (bytes : List ℕ) → AreThin old → ReadingGroups old old bytes bytes []
 groups-begin old bytes thin = record {
-    thin = thin;
-    so_far = record { found = []; text = refl; whole = tt; names = sym (append-nil old.names); have_rows = refl };
-    to_come = λ h. h
+  thin = thin;
+  so_far = record { found = []; text = refl; whole = tt; names = sym (append-nil old.names); have_rows = refl };
+  to_come = λ h. h;
 }
 
 -- and goes on by one
@@ -198,7 +198,7 @@ pub groups-go_on : (old now new : Features) (bytes rest others : List ℕ) (rows
     → ReadingGroups old now bytes rest rows → (rest ≡ [] → ⊥) → ReadsGroup now new rest row others → BeginsNoMember others → AreThin new
     → ReadingGroups old new bytes others (rows ++ row ∷ [])
 groups-go_on old now new bytes rest others rows row kept some next ends thin = record {
-    thin = thin;
-    so_far = groups-push old now new bytes rest others rows row kept.so_far next;
-    to_come = λ h. after_group now new rest others row thin next ends (next_group now.names rest some (kept.to_come h))
+  thin = thin;
+  so_far = groups-push old now new bytes rest others rows row kept.so_far next;
+  to_come = λ h. after_group now new rest others row thin next ends (next_group now.names rest some (kept.to_come h));
 }

@@ -1,5 +1,5 @@
 -- The lines of a group's members, read one after another.
-use Rattle.std.proofs.Common.{◌≡◌, ℕ, ◌+◌, List, [], ◌∷◌, ◌++◌, length, IsTrue, true, refl, sym, ap, subst, ◌∙◌, append_assoc, arith}
+use Rattle.std.proofs.Common.{◌≡◌, ℕ, ◌+◌, List, [], ◌∷◌, ◌++◌, length, true, refl, sym, ap, subst, ◌∙◌, append_assoc, arith}
 use Rattle.std.specs.Prelude.{codes}
 use Rattle.std.specs.List.{list_all}
 use Rattle.std.proofs.lemmas.List.{length-append, append-nil, append_cancel_left}
@@ -32,11 +32,11 @@ next_of [] known rest line after begins ends text thin = absurd (ends line (sym 
 next_of (name ∷ names) known rest line after begins ends text thin =
     let regrouped = subst AreThinNames (sym (append_assoc known (name ∷ []) names)) thin in
     record {
-        name = name;
-        others = lines_of_members names after;
-        text = append_cancel_left (codes "\t\t\t") line (name ++ 10 ∷ lines_of_members names after) (sym begins ∙ text);
-        thin = names-front (known ++ name ∷ []) names regrouped;
-        to_come = record { names = names; text = refl; thin = regrouped }
+      name = name;
+      others = lines_of_members names after;
+      text = append_cancel_left (codes "\t\t\t") line (name ++ 10 ∷ lines_of_members names after) (sym begins ∙ text);
+      thin = names-front (known ++ name ∷ []) names regrouped;
+      to_come = record { names = names; text = refl; thin = regrouped };
     }
 
 -- where a line of a member begins the bytes, one of the members to come is the first
@@ -49,7 +49,7 @@ after_member known line name others after read next =
     let thin = names-name known [] next.name next.thin in
     let same = line_unique next.name name next.others others (thin-unbroken next.name thin) (thin-unbroken name read.thin) (sym next.text ∙ read.text) in
     subst (λ (n : List ℕ). MembersToCome (known ++ n ∷ []) others after) same.0
-        (subst (λ (o : List ℕ). MembersToCome (known ++ next.name ∷ []) o after) same.1 next.to_come)
+    (subst (λ (o : List ℕ). MembersToCome (known ++ next.name ∷ []) o after) same.1 next.to_come)
 
 -- one line more
 pub lines_of_members-push : (names : List (List ℕ)) (name rest : List ℕ) → lines_of_members (names ++ name ∷ []) rest ≡ lines_of_members names (codes "\t\t\t" ++ (name ++ 10 ∷ rest))
@@ -72,13 +72,13 @@ members-push old now new bytes rest line others members number read begins next 
     let behind : rest ≡ codes "\t\t\t" ++ (name ++ 10 ∷ others) = begins ∙ ap (λ (l : List ℕ). codes "\t\t\t" ++ l) next.line.text in
     let count : length now.names ≡ length old.names + length read.found = ap length read.names ∙ length-append old.names read.found in
     record {
-        found = read.found ++ name ∷ [];
-        text = read.text ∙ ap (lines_of_members read.found) behind ∙ sym (lines_of_members-push read.found name others);
-        names = next.names ∙ ap (λ (front : List (List ℕ)). front ++ name ∷ []) read.names ∙ append_assoc old.names read.found (name ∷ []);
-        numbers =
-            ap (λ (front : List FeatureNo). front ++ number ∷ []) read.numbers
-            ∙ ap (λ (n : FeatureNo). numbers_from (length old.names) read.found ++ n ∷ []) (next.at_end ∙ ap numbered count)
-            ∙ sym (numbers_from-push (length old.names) read.found name)
+      found = read.found ++ name ∷ [];
+      text = read.text ∙ ap (lines_of_members read.found) behind ∙ sym (lines_of_members-push read.found name others);
+      names = next.names ∙ ap (λ (front : List (List ℕ)). front ++ name ∷ []) read.names ∙ append_assoc old.names read.found (name ∷ []);
+      numbers =
+          ap (λ (front : List FeatureNo). front ++ number ∷ []) read.numbers
+          ∙ ap (λ (n : FeatureNo). numbers_from (length old.names) read.found ++ n ∷ []) (next.at_end ∙ ap numbered count)
+          ∙ sym (numbers_from-push (length old.names) read.found name);
     }
 
 -- what the loop over members keeps
@@ -90,9 +90,9 @@ pub record ReadingMembers (old now : Features) (bytes rest : List ℕ) (members 
 -- it begins with no member
 pub members-begin : (old : Features) (bytes : List ℕ) → AreThin old → ReadingMembers old old bytes bytes []
 members-begin old bytes thin = record {
-    thin = thin;
-    so_far = record { found = []; text = refl; names = sym (append-nil old.names); numbers = refl };
-    to_come = λ after ends h. h
+  thin = thin;
+  so_far = record { found = []; text = refl; names = sym (append-nil old.names); numbers = refl };
+  to_come = λ after ends h. h;
 }
 
 -- and goes on by one
@@ -100,11 +100,11 @@ pub members-go_on : (old now new : Features) (bytes rest line others : List ℕ)
     → ReadingMembers old now bytes rest members → rest ≡ codes "\t\t\t" ++ line → ReadsFeature now new line number others → AreThin new
     → ReadingMembers old new bytes others (members ++ number ∷ [])
 members-go_on old now new bytes rest line others members number kept begins next thin = record {
-    thin = thin;
-    so_far = members-push old now new bytes rest line others members number kept.so_far begins next;
-    to_come = λ after ends h.
-        subst (λ (names : List (List ℕ)). MembersToCome names others after) (sym next.names)
-            (after_member now.names line next.found others after next.line (next_member now.names rest line after begins ends (kept.to_come after ends h)))
+  thin = thin;
+  so_far = members-push old now new bytes rest line others members number kept.so_far begins next;
+  to_come = λ after ends h.
+      subst (λ (names : List (List ℕ)). MembersToCome names others after) (sym next.names)
+      (after_member now.names line next.found others after next.line (next_member now.names rest line after begins ends (kept.to_come after ends h)));
 }
 
 -- bytes of two lists of members, neither of which goes on

@@ -1,5 +1,5 @@
 -- The names of a thin file, as they are read one after another.
-use Rattle.std.proofs.Common.{◌≡◌, ◌==◌, ℕ, ◌+◌, ◌<◌, ◌≤◌, Bool, true, false, not, ◌&&◌, cond, List, [], ◌∷◌, ◌++◌, map, length, get_or, Contains, Option, Some, None, IsTrue, IsFalse, refl, sym, ap, ◌∙◌, arith, zero, suc, lit<}
+use Rattle.std.proofs.Common.{◌≡◌, ◌==◌, ℕ, ◌+◌, ◌<◌, ◌≤◌, true, false, not, List, [], ◌∷◌, ◌++◌, length, get_or, Contains, Option, Some, None, IsTrue, IsFalse, refl, sym, ap, ◌∙◌, arith, zero, suc, lit<}
 use Rattle.std.specs.Prelude.{if◌then◌else◌, chars}
 use Rattle.std.specs.List.{list_all}
 use Rattle.std.proofs.lemmas.Bool.Decides.{nat_tests}
@@ -18,7 +18,7 @@ use Rattle.uvl_model.specs.declared.rows.FeatureNo.{FeatureNo}
 use Rattle.uvl_model.specs.declared.rows.FeatureRow.{FeatureRow}
 use Rattle.uvl_model.specs.Sound.{AreDistinct}
 use Rattle.uvl_model.specs.Spelling.{numbered}
-use Rattle.uvl_run.specs.ThinFile.{is_thin_name, may_begin, may_go_on}
+use Rattle.uvl_run.specs.ThinFile.{is_thin_name, may_go_on}
 use Rattle.uvl_run.specs.ThinParts.{AreThinNames, child_row, feature_rows_of}
 use Rattle.uvl_run.proofs.ThinBytes.{both, thin-go_on, thin-ascii}
 
@@ -53,9 +53,9 @@ distinct-front (name ∷ a) b h = (λ again. h.0 (contains-front a b name again)
 -- names in front of others are thin with them
 pub names-front : (a b : List (List ℕ)) → AreThinNames (a ++ b) → AreThinNames a
 names-front a b h = record {
-    thin = (both (list_all is_thin_name a) (list_all is_thin_name b) (sym (list_all-append is_thin_name a b) ∙ h.thin)).0;
-    distinct = distinct-front a b h.distinct;
-    few = omega (arith, length-append a b, h.few)
+  thin = (both (list_all is_thin_name a) (list_all is_thin_name b) (sym (list_all-append is_thin_name a b) ∙ h.thin)).0;
+  distinct = distinct-front a b h.distinct;
+  few = omega (arith, length-append a b, h.few);
 }
 
 -- each of them is a thin name
@@ -105,19 +105,19 @@ unfolding row_of
 feature_rows_of-added names name written rows new number parent kept count is same added =
     let counted : number ≡ length names = count ∙ ap length kept ∙ length-feature_rows_of names in
     let of_child : parent ≡ (if length names == 0 then None else Some (numbered 0)) =
-        is ∙ ap (λ (n : ℕ). if n == 0 then None else Some (numbered 0)) counted in
+    is ∙ ap (λ (n : ℕ). if n == 0 then None else Some (numbered 0)) counted in
     added
-        ∙ ap (λ (front : List FeatureRow). front ++ row_of written parent ∷ []) kept
-        ∙ ap (λ (n : List ℕ). feature_rows_of names ++ row_of n parent ∷ []) same
-        ∙ ap (λ (p : Option FeatureNo). feature_rows_of names ++ row_of name p ∷ []) of_child
-        ∙ sym (feature_rows_of-push names name)
+    ∙ ap (λ (front : List FeatureRow). front ++ row_of written parent ∷ []) kept
+    ∙ ap (λ (n : List ℕ). feature_rows_of names ++ row_of n parent ∷ []) same
+    ∙ ap (λ (p : Option FeatureNo). feature_rows_of names ++ row_of name p ∷ []) of_child
+    ∙ sym (feature_rows_of-push names name)
 
 -- distinct names of which each is thin, with room for one more
 pub names-push : (names : List (List ℕ)) (name : List ℕ) → AreThinNames names → IsTrue (is_thin_name name) → AreDistinct (names ++ name ∷ []) → length names + 1 ≤ 2048 → AreThinNames (names ++ name ∷ [])
 names-push names name h thin distinct few = record {
-    thin = list_all-append is_thin_name names (name ∷ []) ∙ rw h.thin (rw thin refl);
-    distinct = distinct;
-    few = omega (arith, length-append names (name ∷ []))
+  thin = list_all-append is_thin_name names (name ∷ []) ∙ rw h.thin (rw thin refl);
+  distinct = distinct;
+  few = omega (arith, length-append names (name ∷ []));
 }
 
 -- a fault of a name is one of the file exactly where the name is bad

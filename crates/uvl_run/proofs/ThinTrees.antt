@@ -1,23 +1,19 @@
 -- The tree of a thin file, and the plain lists that spell it.
-use Rattle.std.proofs.Common.{◌≡◌, ◌≢◌, ◌==◌, ℕ, ◌+◌, ◌≤◌, max, ◌⊎◌, inl, inr, Bool, true, false, List, [], ◌∷◌, ◌++◌, map, length, Option, Some, None, IsTrue, refl, sym, ap, subst, ◌∙◌, append_assoc, arith}
-use Rattle.std.specs.Prelude.{codes, if◌then◌else◌}
+use Rattle.std.proofs.Common.{◌≡◌, ◌≢◌, ◌==◌, ℕ, ◌+◌, ◌≤◌, ◌⊎◌, inl, inr, false, List, [], ◌∷◌, ◌++◌, map, length, None, IsTrue, refl, sym, ap, subst, ◌∙◌, append_assoc, arith}
+use Rattle.std.specs.Prelude.{codes}
 use Rattle.std.specs.List.{list_all}
 use Rattle.std.proofs.lemmas.Bool.Decides.{nat_tests}
-use Rattle.std.proofs.lemmas.List.{length-append, map-append, append-nil, append_cancel_left}
+use Rattle.std.proofs.lemmas.List.{map-append}
 use Rattle.uvl_model.specs.declared.rows.FeatureNo.{FeatureNo}
 use Rattle.uvl_model.specs.declared.rows.FeatureRow.{FeatureRow}
 use Rattle.uvl_model.specs.declared.rows.GroupRow.{GroupRow}
-use Rattle.uvl_model.specs.Names.{feature_names}
-use Rattle.uvl_model.specs.Rows.{Rows}
-use Rattle.uvl_model.specs.Sound.{AreDistinct, HasBounds, AreBounded, MembersAreBounded, IsWithinLimits, IsSound}
-use Rattle.uvl_model.specs.Spelling.{Spells, numbered, size_of, size_of_members, feature_rows_of_groups, feature_rows_of_members, member_numbers, group_rows_of_groups, group_rows_of_members}
-use Rattle.uvl_model.specs.Tree.{Tree, Groups, Members, feature, no_groups, group, no_members, member, member_count, names_of, names_of_groups, names_of_members, depth_of_groups, depth_of_members}
-use Rattle.uvl_run.specs.declared.thin.features.Features.{Features}
+use Rattle.uvl_model.specs.Sound.{AreDistinct, AreBounded, MembersAreBounded, IsWithinLimits}
+use Rattle.uvl_model.specs.Spelling.{Spells, numbered, size_of_members, feature_rows_of_groups, feature_rows_of_members, member_numbers, group_rows_of_groups, group_rows_of_members}
+use Rattle.uvl_model.specs.Tree.{Groups, Members, feature, no_groups, group, no_members, member, member_count, names_of, names_of_groups, names_of_members, depth_of_groups, depth_of_members}
 use Rattle.uvl_run.specs.declared.thin.kind.GroupKind.{GroupKind}
 use Rattle.uvl_run.specs.declared.thin.kind.GroupKind.TheVariants.{Mandatory, Optional}
-use Rattle.uvl_run.specs.ThinFile.{IsThinFile, AreLeaves, AreThin, kind_word, member_lines, group_lines, thin_text, is_thin_name}
-use Rattle.uvl_run.specs.ThinParts.{ThinGroup, AreThinNames, AreGroups, IsNameLine, word_of, least_of, lines_of_members, lines_of_groups, names_in, child_row, feature_rows_of, numbers_from, group_row, group_rows_from}
-use Rattle.uvl_run.specs.ThinReading.{ReadsFeature, ReadsGroups, AreThin as AreThinFeatures}
+use Rattle.uvl_run.specs.ThinFile.{IsThinFile, AreLeaves, AreThin, kind_word, member_lines, group_lines, is_thin_name}
+use Rattle.uvl_run.specs.ThinParts.{ThinGroup, AreThinNames, AreGroups, word_of, least_of, lines_of_members, lines_of_groups, names_in, child_row, feature_rows_of, numbers_from, group_row, group_rows_from}
 
 -- members without groups, by their names
 abbrev pub leaves : List (List ℕ) → Members
@@ -58,7 +54,7 @@ pub lines_of-leaves : (names : List (List ℕ)) (rest : List ℕ) → member_lin
 lines_of-leaves [] rest = refl
 lines_of-leaves (name ∷ names) rest =
     ap (λ (bytes : List ℕ). codes "\t\t\t" ++ bytes)
-        (regrouped name (member_lines (leaves names)) rest ∙ ap (λ (bytes : List ℕ). name ++ 10 ∷ bytes) (lines_of-leaves names rest))
+    (regrouped name (member_lines (leaves names)) rest ∙ ap (λ (bytes : List ℕ). name ++ 10 ∷ bytes) (lines_of-leaves names rest))
 
 pub rows_of-leaves : (n : ℕ) (names : List (List ℕ)) → feature_rows_of_members (numbered 0) n (leaves names) ≡ map child_row names
 rows_of-leaves n [] = refl
@@ -76,10 +72,10 @@ no_rows_of-leaves n (name ∷ names) = no_rows_of-leaves (n + 1) names
 pub lines_of-group : (word same lines others text all : List ℕ) → word ≡ same → others ≡ text → lines ++ text ≡ all → codes "\t\t" ++ word ++ codes "\n" ++ lines ++ others ≡ codes "\t\t" ++ (same ++ 10 ∷ all)
 lines_of-group word same lines others text all of_kind behind together =
     ap (λ (bytes : List ℕ). codes "\t\t" ++ bytes)
-        (regrouped word lines others
-            ∙ ap (λ (w : List ℕ). w ++ 10 ∷ (lines ++ others)) of_kind
-            ∙ ap (λ (o : List ℕ). same ++ 10 ∷ (lines ++ o)) behind
-            ∙ ap (λ (a : List ℕ). same ++ 10 ∷ a) together)
+    (regrouped word lines others
+    ∙ ap (λ (w : List ℕ). w ++ 10 ∷ (lines ++ others)) of_kind
+    ∙ ap (λ (o : List ℕ). same ++ 10 ∷ (lines ++ o)) behind
+    ∙ ap (λ (a : List ℕ). same ++ 10 ∷ a) together)
 
 -- a name at least
 some_name : (names : List (List ℕ)) → names ≢ [] → 1 ≤ length names
@@ -152,8 +148,8 @@ group_rows_of-groups n (first ∷ groups) =
     let behind = group_rows_of_groups (numbered 0) (n + size_of_members (leaves first.names)) (groups_tree groups) in
     let row : List FeatureNo → GroupRow = row_of (least_of first.kind (length first.names)) (length first.names) in
     ap (λ (numbers : List FeatureNo). row numbers ∷ group_rows_of_members n (leaves first.names) ++ behind) (numbers_of-leaves n first.names)
-        ∙ ap (λ (front : List GroupRow). group_row n first ∷ front ++ behind) (no_rows_of-leaves n first.names)
-        ∙ ap (λ (rows : List GroupRow). group_row n first ∷ rows) (group_rows_of-groups (n + size_of_members (leaves first.names)) groups ∙ ap (λ (m : ℕ). group_rows_from (n + m) groups) size)
+    ∙ ap (λ (front : List GroupRow). group_row n first ∷ front ++ behind) (no_rows_of-leaves n first.names)
+    ∙ ap (λ (rows : List GroupRow). group_row n first ∷ rows) (group_rows_of-groups (n + size_of_members (leaves first.names)) groups ∙ ap (λ (m : ℕ). group_rows_from (n + m) groups) size)
 
 -- The bytes spell such a root and groups, and their names are a thin file's.
 pub record FileParts (bytes : List ℕ) : Type 0 where
@@ -170,14 +166,14 @@ file-parts bytes parts =
     let same = sym names in
     let lines = lines_of-groups parts.groups parts.whole in
     record {
-        text =
-            parts.text
-            ∙ ap (λ (l : List ℕ). codes "features\n\t" ++ (parts.root ++ 10 ∷ l)) (sym lines)
-            ∙ ap (λ (l : List ℕ). codes "features\n\t" ++ l) (sym (append_assoc parts.root (codes "\n") (group_lines (groups_tree parts.groups))));
-        thin = thin-groups parts.groups parts.whole;
-        names = subst (λ (n : List (List ℕ)). IsTrue (list_all is_thin_name n)) same parts.thin.thin;
-        distinct = subst AreDistinct same parts.thin.distinct;
-        few = subst (λ (n : List (List ℕ)). length n ≤ 2048) same parts.thin.few
+      text =
+          parts.text
+          ∙ ap (λ (l : List ℕ). codes "features\n\t" ++ (parts.root ++ 10 ∷ l)) (sym lines)
+          ∙ ap (λ (l : List ℕ). codes "features\n\t" ++ l) (sym (append_assoc parts.root (codes "\n") (group_lines (groups_tree parts.groups))));
+      thin = thin-groups parts.groups parts.whole;
+      names = subst (λ (n : List (List ℕ)). IsTrue (list_all is_thin_name n)) same parts.thin.thin;
+      distinct = subst AreDistinct same parts.thin.distinct;
+      few = subst (λ (n : List (List ℕ)). length n ≤ 2048) same parts.thin.few;
     }
 
 -- and the tree keeps the limits of a model
@@ -185,15 +181,15 @@ pub within-parts : (bytes : List ℕ) (parts : FileParts bytes) → IsWithinLimi
 within-parts bytes parts =
     let file = file-parts bytes parts in
     record {
-        few = file.few;
-        shallow = let depth = depth_of-groups parts.groups in omega arith;
-        distinct = file.distinct;
-        bounded = bounded-groups parts.groups parts.whole
+      few = file.few;
+      shallow = let depth = depth_of-groups parts.groups in omega arith;
+      distinct = file.distinct;
+      bounded = bounded-groups parts.groups parts.whole;
     }
 
 -- and these rows spell it
 pub spells-parts : (bytes : List ℕ) (parts : FileParts bytes) → Spells (feature parts.root (groups_tree parts.groups)) (record { features = feature_rows_of (parts.root ∷ names_in parts.groups); groups = group_rows_from 1 parts.groups })
 spells-parts bytes parts = record {
-    features = ap (λ (others : List FeatureRow). record { name = parts.root; parent = None } ∷ others) (sym (rows_of-groups 1 parts.groups));
-    groups = sym (group_rows_of-groups 1 parts.groups)
+  features = ap (λ (others : List FeatureRow). record { name = parts.root; parent = None } ∷ others) (sym (rows_of-groups 1 parts.groups));
+  groups = sym (group_rows_of-groups 1 parts.groups);
 }

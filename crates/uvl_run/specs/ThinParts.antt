@@ -1,5 +1,5 @@
 -- A thin file in plain lists, as it is read from the front: the root's name, and then the groups.
-use Rattle.std.specs.Prelude.{◌≡◌, ◌≢◌, ℕ, ◌+◌, ◌≤◌, ⊤, Bool, not, ◌==◌, IsTrue, List, [], ◌∷◌, ◌++◌, map, length, Option, Some, None, codes}
+use Rattle.std.specs.Prelude.{◌≡◌, ◌≢◌, ℕ, ◌+◌, ◌≤◌, ⊤, Bool, not, ◌==◌, IsTrue, List, [], ◌∷◌, ◌++◌, map, length, Some, None, codes}
 use Rattle.std.specs.List.{list_all}
 use Rattle.uvl_model.specs.declared.rows.FeatureNo.{FeatureNo}
 use Rattle.uvl_model.specs.declared.rows.FeatureRow.{FeatureRow}
@@ -90,10 +90,10 @@ numbers_from n (name ∷ names) = numbered n ∷ numbers_from (n + 1) names
 abbrev pub group_row : ℕ → ThinGroup → GroupRow
 group_row n group =
     record {
-        parent = numbered 0;
-        lo = least_of group.kind (length group.names);
-        hi = length group.names;
-        members = numbers_from n group.names
+      parent = numbered 0;
+      lo = least_of group.kind (length group.names);
+      hi = length group.names;
+      members = numbers_from n group.names;
     }
 
 -- the rows of groups below the root whose first member has number n

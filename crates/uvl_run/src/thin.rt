@@ -11,7 +11,6 @@ mod kind;
 mod line;
 
 pub(crate) use fault::ThinFault;
-
 use features::Features;
 use std::alloc::Global;
 use uvl_model::Model;

@@ -3,10 +3,10 @@ ghost use Rattle.std.specs.Prelude.{◌≡◌, ◌≢◌, ℕ, List, [], ◌∷�
 ghost use Rattle.uvl_run.specs.ThinParts.{ThinGroup, AreGroups, AreThinNames, BeginsNoMember, lines_of_members, lines_of_group, lines_of_groups, names_in};
 ghost use Rattle.uvl_run.specs.ThinReading.{AreThin, ReadsFeature, ReadsMembers, ReadsGroup, ReadsGroups};
 
+use crate::thin::ThinFault;
 use crate::thin::features::{Features, ROOT};
 use crate::thin::kind::read_kind;
 use crate::thin::line::{behind, read_name};
-use crate::thin::ThinFault;
 use sqlite_items::Items;
 use std::alloc::Global;
 use uvl_model::{FeatureNo, GroupRow};

@@ -19,6 +19,6 @@ loop-rest-smaller c =
 pub loop-rest-preserved : goal.loop-rest-preserved
 loop-rest-preserved c =
     subst (λ (rows : List GroupRow). ReadingGroups c.args.features.now c.read_group.new.features c.args.bytes.now c.in_ok-group.others.now rows)
-        (sym c.in_ok-push.ensures.ok)
-        (groups-go_on _ _ _ _ _ _ _ _ c.loop-rest.invariant (not_empty c.loop-rest.rest.now _ c.is_empty.ensures c.loop-rest-test.true)
-            c.in_ok-group.ensures.read c.in_ok-group.ensures.all c.in_ok-group.ensures.thin)
+    (sym c.in_ok-push.ensures.ok)
+    (groups-go_on _ _ _ _ _ _ _ _ c.loop-rest.invariant (not_empty c.loop-rest.rest.now _ c.is_empty.ensures c.loop-rest-test.true)
+    c.in_ok-group.ensures.read c.in_ok-group.ensures.all c.in_ok-group.ensures.thin)

@@ -14,5 +14,5 @@ returns-in_err-member-clause-not_thin c = λ is names rest text ends thin.
 pub loop-line-preserved : goal.loop-line-preserved
 loop-line-preserved c =
     subst (λ (members : List FeatureNo). ReadingMembers c.args.features.now c.read_feature.new.features c.args.bytes.now c.in_ok-member.others.now members)
-        (sym c.in_ok-push.ensures.ok)
-        (members-go_on _ _ _ _ _ _ _ _ _ c.loop-line.invariant c.in-Some.ensures.found c.in_ok-member.ensures.read c.in_ok-member.ensures.thin)
+    (sym c.in_ok-push.ensures.ok)
+    (members-go_on _ _ _ _ _ _ _ _ _ c.loop-line.invariant c.in-Some.ensures.found c.in_ok-member.ensures.read c.in_ok-member.ensures.thin)
