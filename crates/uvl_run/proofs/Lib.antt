@@ -11,4 +11,11 @@ pub mod Progress
 pub mod Runs
 pub mod Sets
 pub mod SoFar
+pub mod ThinBytes
+pub mod ThinFiles
+pub mod ThinGroups
+pub mod ThinKinds
+pub mod ThinMembers
+pub mod ThinNames
+pub mod ThinTrees
 pub mod Told

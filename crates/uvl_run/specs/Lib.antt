@@ -9,4 +9,7 @@ pub mod Replies
 pub mod Run
 pub mod Script
 pub mod Status
+pub mod ThinFault
 pub mod ThinFile
+pub mod ThinParts
+pub mod ThinReading
