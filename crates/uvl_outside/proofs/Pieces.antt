@@ -4,7 +4,7 @@ use Rattle.std.proofs.lemmas.Grind.{common_steps}
 use Rattle.std.proofs.lemmas.List.{drop-drop}
 use Rattle.uvl_outside.specs.Source.{TakesFront}
 
--- as many of the bytes left as fit, but at most `most`, stand in the buffer, and the others are left
+-- the bytes that fit, but at most `most`, stand in the buffer, and the others are left
 pub takes_front : (rest into now : List ℕ) (most count : ℕ)
     → 0 < length into → 0 < most → count ≡ min (min most (length into)) (length rest)
     → now ≡ take count rest ++ drop count into

@@ -3,7 +3,7 @@ use Rattle.std.specs.Prelude.{Bool, true, false}
 use Rattle.std.specs.declared.io.ErrorKind.{ErrorKind}
 use Rattle.std.specs.declared.io.ErrorKind.TheVariants.{NotFound, NotADirectory, InvalidInput, InvalidFilename}
 
--- nothing is there, the path leads through a file, or no file can have such a path (a NUL in it, or too long)
+-- nothing is there, the path leads through a file, or it has a NUL or is too long
 abbrev pub is_absence : ErrorKind → Bool
 is_absence NotFound = true
 is_absence NotADirectory = true

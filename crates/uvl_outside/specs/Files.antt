@@ -1,4 +1,4 @@
--- What a store of files tells of its contents, and what the answers of `fetch` say. This project's own.
+-- What the answers of `fetch` say of a file and of the buffer. This project's own.
 use Rattle.std.specs.Prelude.{◌≡◌, ℕ, ◌<◌, ◌≤◌, Bool, true, false, List, [], length, Option, None, Some, IfSome, IsSomeAnd, Result, Ok, Err}
 use Rattle.uvl_outside.specs.declared.files.Fetched.{Fetched}
 use Rattle.uvl_outside.specs.declared.files.Fetched.TheVariants.{Whole, Absent, TooLong}
@@ -16,7 +16,8 @@ fetch_failed (Err Failed) = true
 fetch_failed (Err OutOfMemory) = false
 
 -- the buffer has all bytes of the file at this path, which are at most `limit`
-pub record IsWhole (told : Option Contents) (path : List ℕ) (limit : ℕ) (into : List ℕ) : Type 0 where
+pub record IsWhole (told : Option Contents) (path : List ℕ) (limit : ℕ) (into : List ℕ) :
+    Type 0 where
   pub within : length into ≤ limit
   pub exact : IfSome told (λ contents. contents path ≡ Some into)
 
@@ -26,7 +27,8 @@ pub record IsAbsent (told : Option Contents) (path into : List ℕ) : Type 0 whe
   pub exact : IfSome told (λ contents. contents path ≡ None)
 
 -- the file at this path has more bytes than `limit`
-pub record IsTooLong (told : Option Contents) (path : List ℕ) (limit : ℕ) (into : List ℕ) : Type 0 where
+pub record IsTooLong (told : Option Contents) (path : List ℕ) (limit : ℕ) (into : List ℕ) :
+    Type 0 where
   pub empty : into ≡ []
   pub exact : IfSome told (λ contents. IsSomeAnd (contents path) (λ bytes. limit < length bytes))
 

@@ -25,7 +25,7 @@ after_call plan = record {
   faults = if fails_next plan then one_more plan.faults else plan.faults;
 }
 
--- the most bytes that go into a buffer of this length: the next size, at least 1, and behind the sizes as many as fit
+-- the most bytes that go into a buffer of this length: the next size, where 0 counts as 1, or the room
 abbrev pub most_given : List ℕ → ℕ → ℕ
 most_given [] room = room
 most_given (size ∷ _) room = min (max size 1) room

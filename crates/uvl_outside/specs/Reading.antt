@@ -7,7 +7,8 @@ use Rattle.uvl_outside.specs.declared.files.FetchFault.{FetchFault}
 
 -- at most so many bytes were taken from the front of what was left
 abbrev pub ConsumesAtMost : Option (List ℕ) → Option (List ℕ) → ℕ → Type 0
-ConsumesAtMost before now most = (taken : List ℕ) × (length taken ≤ most) × Consumes before now taken
+ConsumesAtMost before now most =
+    (taken : List ℕ) × (length taken ≤ most) × Consumes before now taken
 
 -- the buffer has all bytes that were left where they are at most `limit`, and else none
 abbrev pub ReadsWhole : Option (List ℕ) → ℕ → List ℕ → Result Fetched FetchFault → Type 0

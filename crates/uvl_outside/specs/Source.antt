@@ -2,7 +2,7 @@
 use Rattle.std.specs.Prelude.{◌≡◌, ◌↔◌, ℕ, List, [], take, Option, IfSome, Result, Ok, Err}
 use Rattle.std.specs.Io.KnownBytes.{Consumes, Keeps}
 
--- the buffer's first `count` bytes were taken from the front of what was left, and there are none exactly at the end
+-- the buffer's first `count` bytes were the front of what was left, and are none exactly at the end
 pub record TakesFront (before now : Option (List ℕ)) (into : List ℕ) (count : ℕ) : Type 0 where
   pub front : Consumes before now (take count into)
   pub none_at_end : IfSome before (λ left. (count ≡ 0) ↔ (left ≡ []))

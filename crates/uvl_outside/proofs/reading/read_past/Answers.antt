@@ -1,4 +1,4 @@
--- A call that gave nothing was at the end, and bytes that found no memory are within the limit plus one.
+-- A call that gave nothing was at the end, and bytes without room are within the limit plus one.
 use Rattle.std.proofs.Common.{arith}
 use Rattle.std.proofs.lemmas.Grind.{common_steps}
 use Rattle.uvl_outside.proofs.Streams.{all_from_none, at_most_both}

@@ -7,4 +7,6 @@ use Rattle.uvl_outside.proofs.sure_source.SureSource.give.Goals as goal
 pub returns-clause-moves : goal.returns-clause-moves
 returns-clause-moves c =
     takes_further c.self.inside.bytes.items c.args.self.now c.args.into.now
-    c.copy_front-count.new.into c.self.inside.taken c.args.most c.copy_front-count.result c.self.view_is c.requires.room c.requires.some (grind (arith, common_steps)) (grind (arith, common_steps))
+    c.copy_front-count.new.into c.self.inside.taken c.args.most c.copy_front-count.result
+    c.self.view_is c.requires.room c.requires.some
+    (grind (arith, common_steps)) (grind (arith, common_steps))
