@@ -1,11 +1,10 @@
 -- The groups' rows hold under marks exactly where the tree fits the set that the marks agree with.
-use Rattle.std.proofs.Common.{◌≡◌, ℕ, ◌+◌, ◌==◌, nat_le, Bool, true, false, not, ◌&&◌, List, [], ◌∷◌, ◌++◌, length, refl, sym, ap, ◌∙◌, zero-add, arith, if◌then◌else◌}
-use Rattle.std.specs.List.{list_all, count_by}
+use Rattle.std.proofs.Common.{◌≡◌, ℕ, ◌+◌, ◌==◌, nat_le, Bool, true, false, not, ◌&&◌, List, refl, sym, ap, ◌∙◌, zero-add, arith, if◌then◌else◌}
+use Rattle.std.specs.List.{list_all}
 use Rattle.std.proofs.lemmas.List.Folds.{list_all-append}
 use Rattle.std.proofs.lemmas.List.Sums.{sum_by-cons}
 use Rattle.std.proofs.lemmas.Bool.Decides.{nat_tests}
 use Rattle.uvl_model.specs.declared.rows.FeatureNo.{FeatureNo}
-use Rattle.uvl_model.specs.declared.rows.GroupRow.{GroupRow}
 use Rattle.uvl_model.specs.Check.{is_marked, marked_count, group_holds}
 use Rattle.uvl_model.specs.Product.{has, chosen_count, is_absent, fits, groups_fit, members_fit}
 use Rattle.uvl_model.specs.Spelling.{numbered, size_of, size_of_members, member_numbers, group_rows, group_rows_of_groups, group_rows_of_members}

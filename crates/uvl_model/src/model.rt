@@ -1,5 +1,5 @@
 //! A sound feature model.
-ghost use Rattle.std.specs.Prelude.{◌≡◌, ◌<◌, ◌↔◌, ℕ, length, slice_get, chars, Contains, IsSome, IfSome, Some};
+ghost use Rattle.std.specs.Prelude.{◌≡◌, ◌<◌, ◌≤◌, ◌↔◌, ℕ, length, slice_get, chars, Contains, IsSome, IfSome, Some};
 
 use crate::check::{groups_hold, is_chosen};
 use crate::{FeatureNo, FeatureRow, GroupRow, NameIndex};
@@ -50,9 +50,11 @@ impl Model {
         }
     }
 
-    /// The features, by number.
+    /// The features, by number: 1 to 2,048 of them.
     pub fn features(&self) -> &[FeatureRow]
         ensures rows { result.now ≡ self.now.features }
+        ensures some { 0 < length result.now }
+        ensures few { length result.now ≤ 2048 }
         ensures sound { IsSound self.now }
     {
         self.features.as_slice()
