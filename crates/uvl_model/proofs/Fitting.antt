@@ -11,6 +11,7 @@ use Rattle.uvl_model.specs.Spelling.{numbered, size_of, size_of_members, member_
 use Rattle.uvl_model.specs.Tree.{Tree, Groups, Members, feature, no_groups, group, no_members, member, top_name, names_of, names_of_groups, names_of_members}
 use Rattle.uvl_model.proofs.Marks.{AgreeFrom, agree_parts}
 
+-- grouping by `&&` is the same from either side
 and_assoc : (x y z : Bool) → ((x && y) && z) ≡ (x && (y && z))
 and_assoc true y z = refl
 and_assoc false y z = refl
@@ -44,6 +45,7 @@ none_case false k rows fit absent others gone t a g =
     swapped false false z = refl
 
 module _ (marks : List Bool) (set : List (List ℕ)) where
+  -- a tree is not absent where its top is in the set
   absent_top : (tree : Tree) → has set (top_name tree) ≡ true → is_absent tree set ≡ false
   absent_top (feature name below) h = rw h refl
 

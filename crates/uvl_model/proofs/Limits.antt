@@ -11,6 +11,7 @@ use Rattle.uvl_model.proofs.Families.{spelled_names}
 size_is : (rows : Rows) (sound : IsSound rows) → size_of sound.tree ≡ length rows.features
 size_is rows sound = ap length (sym (spelled_names sound.tree rows sound.spelled)) ∙ length-map rows.features (λ row. row.name)
 
+-- a tree has its root
 has_root : (tree : Tree) → 0 < size_of tree
 has_root (feature name below) = omega arith
 

@@ -10,6 +10,7 @@ use Rattle.indexmap.proofs.CallerLemmas.{Contains-list_any}
 use Rattle.uvl_model.specs.Names.{marked}
 use Rattle.uvl_model.specs.Product.{has}
 
+-- a name equals itself
 pub bytes_eq-same : (x : List ℕ) → bytes_eq x x ≡ true
 bytes_eq-same x = (bytes_eq-Decides x x).1 refl
 
@@ -58,6 +59,7 @@ all_have-from_members names [] each = refl
 all_have-from_members names (x ∷ xs) each =
     and_from _ _ (each x (or_left _ _ (bytes_eq-same x))) (all_have-from_members names xs (λ y h. each y (or_right (bytes_eq y x) _ h)))
 
+-- and then each member is
 member_of_all : (names set : List (List ℕ)) → list_all (has names) set ≡ true → (x : List ℕ) → has set x ≡ true → has names x ≡ true
 member_of_all names [] all x h = absurd (false≢true h)
 member_of_all names (y ∷ ys) all x h =

@@ -71,7 +71,8 @@ impl Model {
 
     /// The number of the feature with this name.
     pub fn find(&self, name: &str) -> Option<FeatureNo>
-        ensures exact { (n : ℕ) → (result ≡ Some (numbered n)) ↔ (slice_get (feature_names self.now) n ≡ Some (chars name.now)) }
+        ensures exact { (n : ℕ) → (result ≡ Some (numbered n))
+            ↔ (slice_get (feature_names self.now) n ≡ Some (chars name.now)) }
         ensures known { IsSome result ↔ Contains (feature_names self.now) (chars name.now) }
         ensures within { IfSome result (λ f. f.0 < length self.now.features) }
     {
