@@ -1,19 +1,19 @@
 -- A set is a product of a tree exactly where the root and the groups' rows hold under its marks.
-use Rattle.std.proofs.Common.{◌≡◌, ℕ, ◌+◌, Bool, true, false, ◌&&◌, List, [], ◌∷◌, ◌++◌, length, map, Option, None, Some, refl, sym, ap, ◌∙◌, subst, if◌then◌else◌}
+use Rattle.std.proofs.Common.{◌≡◌, ℕ, ◌+◌, Bool, true, false, ◌&&◌, List, ◌∷◌, length, map, Option, None, Some, refl, sym, ap, ◌∙◌, subst, if◌then◌else◌}
 use Rattle.std.specs.List.{list_all}
 use Rattle.std.proofs.lemmas.List.{map-append, length-map}
 use Rattle.uvl_model.specs.declared.rows.FeatureNo.{FeatureNo}
 use Rattle.uvl_model.specs.declared.rows.FeatureRow.{FeatureRow}
 use Rattle.uvl_model.specs.Check.{is_marked, group_holds}
-use Rattle.uvl_model.specs.Names.{feature_names, marked, chosen_names}
+use Rattle.uvl_model.specs.Names.{feature_names, chosen_names}
 use Rattle.uvl_model.specs.Product.{has, fits, is_absent, is_product}
 use Rattle.uvl_model.specs.Rows.{Rows}
 use Rattle.uvl_model.specs.Sound.{IsSound, AreDistinct}
 use Rattle.uvl_model.specs.Spelling.{Spells, numbered, size_of, size_of_members, feature_rows, feature_rows_of_groups, feature_rows_of_members, group_rows}
 use Rattle.uvl_model.specs.Tree.{Tree, Groups, Members, feature, no_groups, group, no_members, member, top_name, names_of, names_of_groups, names_of_members}
 use Rattle.uvl_model.proofs.Fitting.{tree_holds}
-use Rattle.uvl_model.proofs.Marks.{AgreeFrom, marks_agree, given_marks_agree}
-use Rattle.uvl_model.proofs.Membership.{marked_within}
+use Rattle.uvl_model.proofs.Marks.{AgreeFrom, marks_agree, given_marks_agree, agree_same}
+use Rattle.uvl_model.proofs.Membership.{marked_within, all_have-same}
 
 mutual
   -- the rows of a tree have its names
@@ -67,3 +67,14 @@ one_family first second rows one two set =
     let agree = given_marks_agree set (feature_names rows) in
     let marks = map (has set) (feature_names rows) in
     product_by_rows marks set first rows one agree ∙ sym (product_by_rows marks set second rows two agree)
+
+-- sets with the same members are products of a tree alike
+pub same_products : (tree : Tree) (first second : List (List ℕ)) → ((name : List ℕ) → has first name ≡ has second name) → is_product tree first ≡ is_product tree second
+same_products tree first second same =
+    let rows : Rows = record { features = feature_rows None 0 tree; groups = group_rows 0 tree } in
+    let spelled : Spells tree rows = record { features = refl; groups = refl } in
+    let marks = map (has first) (feature_names rows) in
+    let agree = given_marks_agree first (feature_names rows) in
+    product_by_rows marks first tree rows spelled agree
+    ∙ ap (λ (b : Bool). b && (is_marked marks (numbered 0) && list_all (group_holds marks) rows.groups)) (all_have-same (feature_names rows) first second same)
+    ∙ sym (product_by_rows marks second tree rows spelled (agree_same marks first second 0 (feature_names rows) same agree))

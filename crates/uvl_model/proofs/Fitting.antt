@@ -1,17 +1,17 @@
 -- The groups' rows hold under marks exactly where the tree fits the set that the marks agree with.
-use Rattle.std.proofs.Common.{◌≡◌, ℕ, ◌+◌, ◌==◌, nat_le, Bool, true, false, not, ◌&&◌, List, [], ◌∷◌, ◌++◌, length, refl, sym, ap, ◌∙◌, zero-add, arith, if◌then◌else◌}
-use Rattle.std.specs.List.{list_all, count_by}
+use Rattle.std.proofs.Common.{◌≡◌, ℕ, ◌+◌, ◌==◌, nat_le, Bool, true, false, not, ◌&&◌, List, refl, sym, ap, ◌∙◌, zero-add, arith, if◌then◌else◌}
+use Rattle.std.specs.List.{list_all}
 use Rattle.std.proofs.lemmas.List.Folds.{list_all-append}
 use Rattle.std.proofs.lemmas.List.Sums.{sum_by-cons}
 use Rattle.std.proofs.lemmas.Bool.Decides.{nat_tests}
 use Rattle.uvl_model.specs.declared.rows.FeatureNo.{FeatureNo}
-use Rattle.uvl_model.specs.declared.rows.GroupRow.{GroupRow}
 use Rattle.uvl_model.specs.Check.{is_marked, marked_count, group_holds}
 use Rattle.uvl_model.specs.Product.{has, chosen_count, is_absent, fits, groups_fit, members_fit}
 use Rattle.uvl_model.specs.Spelling.{numbered, size_of, size_of_members, member_numbers, group_rows, group_rows_of_groups, group_rows_of_members}
 use Rattle.uvl_model.specs.Tree.{Tree, Groups, Members, feature, no_groups, group, no_members, member, top_name, names_of, names_of_groups, names_of_members}
 use Rattle.uvl_model.proofs.Marks.{AgreeFrom, agree_parts}
 
+-- grouping by `&&` is the same from either side
 and_assoc : (x y z : Bool) → ((x && y) && z) ≡ (x && (y && z))
 and_assoc true y z = refl
 and_assoc false y z = refl
@@ -45,6 +45,7 @@ none_case false k rows fit absent others gone t a g =
     swapped false false z = refl
 
 module _ (marks : List Bool) (set : List (List ℕ)) where
+  -- a tree is not absent where its top is in the set
   absent_top : (tree : Tree) → has set (top_name tree) ≡ true → is_absent tree set ≡ false
   absent_top (feature name below) h = rw h refl
 

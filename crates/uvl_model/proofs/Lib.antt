@@ -1,5 +1,6 @@
 pub mod Families
 pub mod Fitting
+pub mod Limits
 pub mod Marks
 pub mod Membership
 pub mod NameKeys

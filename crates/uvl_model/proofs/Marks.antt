@@ -1,6 +1,5 @@
 -- Marks that say of each name of a list whether it is in a set.
-use Rattle.std.proofs.Common.{◌≡◌, ℕ, ◌+◌, Bool, true, false, List, [], ◌∷◌, ◌++◌, length, map, Contains, refl, sym, ◌∙◌, ap, subst, add-one, arith, if◌then◌else◌}
-use Rattle.std.specs.Str.{bytes_eq}
+use Rattle.std.proofs.Common.{◌≡◌, ℕ, ◌+◌, Bool, true, false, List, [], ◌∷◌, ◌++◌, length, map, Contains, refl, sym, ◌∙◌, subst, add-one, arith, if◌then◌else◌}
 use Rattle.std.proofs.lemmas.Bool.{or_left}
 use Rattle.std.proofs.lemmas.List.Elements.{Contains-append_right, Contains-get_or}
 use Rattle.uvl_model.specs.Check.{is_marked}
@@ -52,3 +51,9 @@ marks_agree (y ∷ ys) (b ∷ bs) d e =
 pub given_marks_agree : (set names : List (List ℕ)) → AgreeFrom (map (has set) names) set 0 names
 given_marks_agree set [] = tt
 given_marks_agree set (y ∷ ys) = (refl, agree_behind (has set y) (map (has set) ys) set set 0 ys (λ x c. refl) (given_marks_agree set ys))
+
+-- marks that agree with a set agree with each set of the same members
+pub agree_same : (marks : List Bool) (first second : List (List ℕ)) (n : ℕ) (names : List (List ℕ)) → ((name : List ℕ) → has first name ≡ has second name)
+    → AgreeFrom marks first n names → AgreeFrom marks second n names
+agree_same marks first second n [] same h = tt
+agree_same marks first second n (name ∷ names) same h = (sym (same name) ∙ h.0, agree_same marks first second (n + 1) names same h.1)

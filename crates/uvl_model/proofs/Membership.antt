@@ -1,15 +1,16 @@
 -- Membership in a list of names, as a test and as a fact.
-use Rattle.std.proofs.Common.{◌≡◌, ℕ, Bool, true, false, ◌||◌, List, [], ◌∷◌, Contains, refl, sym, subst, arith, if◌then◌else◌}
+use Rattle.std.proofs.Common.{◌≡◌, ℕ, Bool, true, false, List, [], ◌∷◌, Contains, refl, sym, subst, if◌then◌else◌, inl, inr, ◌∙◌}
 use Rattle.std.specs.List.{list_all}
 use Rattle.std.specs.Str.{bytes_eq}
-use Rattle.std.proofs.lemmas.Bool.{false_from_ne_true, and_parts, and_from, or_right, or_left, or_parts, or_from}
-use Rattle.std.proofs.lemmas.List.Elements.{Contains-append_right, Contains-get_or}
+use Rattle.std.proofs.lemmas.Bool.{and_from, and_parts, false_from_ne_true, false≢true, or_cases, or_from, or_left, or_parts, or_right}
+use Rattle.std.proofs.lemmas.Bool.Decides.{same_from_decides}
 use Rattle.std.proofs.lemmas.List.Folds.{list_any_at}
 use Rattle.std.proofs.lemmas.Slice.Eq.{bytes_eq-Decides}
 use Rattle.indexmap.proofs.CallerLemmas.{Contains-list_any}
 use Rattle.uvl_model.specs.Names.{marked}
 use Rattle.uvl_model.specs.Product.{has}
 
+-- a name equals itself
 pub bytes_eq-same : (x : List ℕ) → bytes_eq x x ≡ true
 bytes_eq-same x = (bytes_eq-Decides x x).1 refl
 
@@ -51,3 +52,28 @@ marked_within (y ∷ ys) (b ∷ bs) =
     let others = all_have_more (marked ys bs) ys y (marked_within ys bs) in
     elim b as (λ v. list_all (has (y ∷ ys)) (if v then y ∷ marked ys bs else marked ys bs) ≡ true)
     [ true ↦ and_from _ _ (or_left _ _ (bytes_eq-same y)) others | false ↦ others ]
+
+-- all of a set is among names where each of its members is
+all_have-from_members : (names set : List (List ℕ)) → ((x : List ℕ) → has set x ≡ true → has names x ≡ true) → list_all (has names) set ≡ true
+all_have-from_members names [] each = refl
+all_have-from_members names (x ∷ xs) each =
+    and_from _ _ (each x (or_left _ _ (bytes_eq-same x))) (all_have-from_members names xs (λ y h. each y (or_right (bytes_eq y x) _ h)))
+
+-- and then each member is
+member_of_all : (names set : List (List ℕ)) → list_all (has names) set ≡ true → (x : List ℕ) → has set x ≡ true → has names x ≡ true
+member_of_all names [] all x h = absurd (false≢true h)
+member_of_all names (y ∷ ys) all x h =
+    let parts = and_parts (has names y) (list_all (has names) ys) all in
+    elim (or_cases (bytes_eq x y) (has ys x) h) [
+      | inl same ↦ subst (λ (z : List ℕ). has names z ≡ true) (sym ((bytes_eq-Decides x y).0 same)) parts.0
+      | inr there ↦ member_of_all names ys parts.1 x there
+    ]
+
+-- so it is said alike of sets with the same members
+pub all_have-same : (names first second : List (List ℕ)) → ((x : List ℕ) → has first x ≡ has second x) → list_all (has names) first ≡ list_all (has names) second
+all_have-same names first second same =
+    let to : list_all (has names) first ≡ true → list_all (has names) second ≡ true =
+    λ h. all_have-from_members names second (λ x e. member_of_all names first h x (same x ∙ e)) in
+    let back : list_all (has names) second ≡ true → list_all (has names) first ≡ true =
+    λ h. all_have-from_members names first (λ x e. member_of_all names second h x (sym (same x) ∙ e)) in
+    same_from_decides (list_all (has names) first) (list_all (has names) second) (to, back) ((λ h. h), (λ h. h))

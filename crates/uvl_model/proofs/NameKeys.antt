@@ -1,5 +1,5 @@
 -- The keys of an index of names, read as names: by their characters.
-use Rattle.std.proofs.Common.{◌≡◌, ◌↔◌, ℕ, Option, Some, is_some, slice_get, Bool, true, false, List, [], ◌∷◌, ◌++◌, length, map, position, Contains, Decides, refl, sym, ap, ◌∙◌, subst, if◌then◌else◌, string_bytes, String}
+use Rattle.std.proofs.Common.{◌≡◌, ◌↔◌, ℕ, Option, Some, is_some, slice_get, Bool, false, List, [], ◌∷◌, ◌++◌, map, position, Contains, Decides, refl, sym, ap, ◌∙◌, subst, if◌then◌else◌, string_bytes, String}
 use Rattle.std.specs.Prelude.{IsUtf8, chars, encode_utf8_all}
 use Rattle.std.specs.List.{list_any, position_or_len}
 use Rattle.std.specs.Option.{option_map}

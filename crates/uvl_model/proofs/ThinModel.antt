@@ -7,7 +7,7 @@ use Rattle.std.proofs.lemmas.Str.{chars-IsAscii}
 use Rattle.uvl_model.specs.Examples.{thin_tree, thin_rows}
 use Rattle.uvl_model.specs.Names.{feature_names}
 use Rattle.uvl_model.specs.Product.{has}
-use Rattle.uvl_model.specs.Sound.{IsSound, AreDistinct}
+use Rattle.uvl_model.specs.Sound.{IsSound}
 use Rattle.uvl_model.proofs.Membership.{has-from_Contains}
 
 other_name : (names : List (List ℕ)) (x : List ℕ) → has names x ≡ false → Contains names x → ⊥
@@ -20,9 +20,10 @@ thin_sound = record {
   within = record {
     few = omega arith;
     shallow = omega arith;
-    distinct =
-        (other_name (codes "Body" ∷ codes "Radio" ∷ []) (codes "Car") refl,
-         (other_name (codes "Radio" ∷ []) (codes "Body") refl, (other_name [] (codes "Radio") refl, tt)));
+    distinct = (
+      other_name (codes "Body" ∷ codes "Radio" ∷ []) (codes "Car") refl,
+      (other_name (codes "Radio" ∷ []) (codes "Body") refl, (other_name [] (codes "Radio") refl, tt)),
+    );
     bounded =
         ((omega arith, omega arith, inl (omega arith)), (tt, tt), ((omega arith, omega arith, inl (omega arith)), (tt, tt), tt));
   };

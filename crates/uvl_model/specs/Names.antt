@@ -1,6 +1,5 @@
 -- The names of the features of a model's rows.
 use Rattle.std.specs.Prelude.{ℕ, Bool, List, [], ◌∷◌, map, if◌then◌else◌}
-use Rattle.uvl_model.specs.declared.rows.FeatureRow.{FeatureRow}
 use Rattle.uvl_model.specs.Rows.{Rows}
 
 -- the names of the features, by number

@@ -21,14 +21,17 @@ is_absent tree set = list_all (λ name. not (has set name)) (names_of tree)
 -- A tree whose top is in the set fits: of each group of the top from lo to hi members are in the set,
 -- the tree of each such member fits, and no feature of another member's tree is in the set.
 abbrev mutual
+  -- the tree of a chosen feature fits
   pub fits : Tree → List (List ℕ) → Bool
   fits (feature name below) set = groups_fit below set
 
+  -- each group of a chosen feature fits
   pub groups_fit : Groups → List (List ℕ) → Bool
   groups_fit no_groups set = true
   groups_fit (group lo hi members others) set =
       nat_le lo (chosen_count members set) && nat_le (chosen_count members set) hi && members_fit members set && groups_fit others set
 
+  -- each member's tree fits, or is absent where the member is
   pub members_fit : Members → List (List ℕ) → Bool
   members_fit no_members set = true
   members_fit (member tree others) set =

@@ -14,15 +14,17 @@ AreDistinct (name ∷ names) = (Contains names name → ⊥) × AreDistinct name
 abbrev pub HasBounds : ℕ → ℕ → ℕ → Type 0
 HasBounds lo hi k = (1 ≤ k) × (hi ≤ k) × ((lo ≤ hi) ⊎ ((lo ≡ k + 1) × (hi ≡ k)))
 
--- each group of the tree has such bounds
 abbrev mutual
+  -- each group of the tree has such bounds
   pub IsBounded : Tree → Type 0
   IsBounded (feature name below) = AreBounded below
 
+  -- each of the groups, and those below them
   pub AreBounded : Groups → Type 0
   AreBounded no_groups = ⊤
   AreBounded (group lo hi members others) = HasBounds lo hi (member_count members) × MembersAreBounded members × AreBounded others
 
+  -- each group of the members' trees
   pub MembersAreBounded : Members → Type 0
   MembersAreBounded no_members = ⊤
   MembersAreBounded (member tree others) = IsBounded tree × MembersAreBounded others

@@ -25,28 +25,32 @@ abbrev pub member_count : Members → ℕ
 member_count no_members = 0
 member_count (member tree others) = 1 + member_count others
 
--- the names of the features in document order: a feature before its groups
 abbrev mutual
+  -- the names of the features in document order: a feature before its groups
   pub names_of : Tree → List (List ℕ)
   names_of (feature name below) = name ∷ names_of_groups below
 
+  -- those of the members, group by group
   pub names_of_groups : Groups → List (List ℕ)
   names_of_groups no_groups = []
   names_of_groups (group lo hi members others) = names_of_members members ++ names_of_groups others
 
+  -- those of the trees, member by member
   pub names_of_members : Members → List (List ℕ)
   names_of_members no_members = []
   names_of_members (member tree others) = names_of tree ++ names_of_members others
 
--- how deep the tree is, a feature without groups being 1 deep
 abbrev mutual
+  -- how deep the tree is, a feature without groups being 1 deep
   pub depth_of : Tree → ℕ
   depth_of (feature name below) = 1 + depth_of_groups below
 
+  -- the depth of the deepest member of any group
   pub depth_of_groups : Groups → ℕ
   depth_of_groups no_groups = 0
   depth_of_groups (group lo hi members others) = max (depth_of_members members) (depth_of_groups others)
 
+  -- the depth of the deepest member
   pub depth_of_members : Members → ℕ
   depth_of_members no_members = 0
   depth_of_members (member tree others) = max (depth_of tree) (depth_of_members others)

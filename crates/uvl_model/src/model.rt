@@ -1,5 +1,5 @@
 //! A sound feature model.
-ghost use Rattle.std.specs.Prelude.{◌≡◌, ◌<◌, ◌↔◌, ℕ, length, slice_get, chars, Contains, IsSome, IfSome, Some};
+ghost use Rattle.std.specs.Prelude.{◌≡◌, ◌<◌, ◌≤◌, ◌↔◌, ℕ, length, slice_get, chars, Contains, IsSome, IfSome, Some};
 
 use crate::check::{groups_hold, is_chosen};
 use crate::{FeatureNo, FeatureRow, GroupRow, NameIndex};
@@ -50,9 +50,11 @@ impl Model {
         }
     }
 
-    /// The features, by number.
+    /// The features, by number: 1 to 2,048 of them.
     pub fn features(&self) -> &[FeatureRow]
         ensures rows { result.now ≡ self.now.features }
+        ensures some { 0 < length result.now }
+        ensures few { length result.now ≤ 2048 }
         ensures sound { IsSound self.now }
     {
         self.features.as_slice()
@@ -69,7 +71,8 @@ impl Model {
 
     /// The number of the feature with this name.
     pub fn find(&self, name: &str) -> Option<FeatureNo>
-        ensures exact { (n : ℕ) → (result ≡ Some (numbered n)) ↔ (slice_get (feature_names self.now) n ≡ Some (chars name.now)) }
+        ensures exact { (n : ℕ) → (result ≡ Some (numbered n))
+            ↔ (slice_get (feature_names self.now) n ≡ Some (chars name.now)) }
         ensures known { IsSome result ↔ Contains (feature_names self.now) (chars name.now) }
         ensures within { IfSome result (λ f. f.0 < length self.now.features) }
     {

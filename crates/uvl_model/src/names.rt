@@ -58,7 +58,8 @@ impl NameIndex {
 
     /// The number of the name with these characters.
     pub fn find(&self, name: &str) -> Option<FeatureNo>
-        ensures exact { (n : ℕ) → (result ≡ Some (numbered n)) ↔ (slice_get self.now n ≡ Some (chars name.now)) }
+        ensures exact { (n : ℕ) → (result ≡ Some (numbered n))
+            ↔ (slice_get self.now n ≡ Some (chars name.now)) }
         ensures known { IsSome result ↔ Contains self.now (chars name.now) }
         ensures within { IfSome result (λ f. f.0 < length self.now) }
     {

@@ -10,5 +10,5 @@ new-requires-clause-sound c = rw (c.in_ok-thin_features.ensures, c.in_ok-thin_gr
 pub new-requires-clause-named : goal.new-requires-clause-named
 new-requires-clause-named c =
     let names = thin_names c.new-names.result c.add.new.self c.add-2.new.self c.add-3.new.self _ _ _ c.new-names.ensures
-        (c.in_ok-add.ensures.added, c.in_ok-add.ensures.known) (c.in_ok-add-2.ensures.added, c.in_ok-add-2.ensures.known) (c.in_ok-add-3.ensures.added, c.in_ok-add-3.ensures.known) in
+    (c.in_ok-add.ensures.added, c.in_ok-add.ensures.known) (c.in_ok-add-2.ensures.added, c.in_ok-add-2.ensures.known) (c.in_ok-add-3.ensures.added, c.in_ok-add-3.ensures.known) in
     c.names-3.view_is ∙ names ∙ sym (ap (map (λ (row : FeatureRow). row.name)) c.in_ok-thin_features.ensures)

@@ -1,5 +1,5 @@
 -- The root and the groups tell whether the chosen features are a product.
-use Rattle.std.proofs.Common.{◌≡◌, Bool, true, false, ◌&&◌, sym, ap, ◌∙◌, subst}
+use Rattle.std.proofs.Common.{◌≡◌, true, false, sym, ap, ◌∙◌, subst}
 use Rattle.std.specs.List.{list_all}
 use Rattle.uvl_model.specs.Check.{is_marked, group_holds}
 use Rattle.uvl_model.specs.Rows.{Rows}

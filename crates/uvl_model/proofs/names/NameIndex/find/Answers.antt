@@ -1,5 +1,5 @@
 -- The place of the name among the keys is its number.
-use Rattle.std.proofs.Common.{◌≡◌, Bool, true, is_some, refl, sym, ap, ◌∙◌}
+use Rattle.std.proofs.Common.{is_some, refl, sym, ap, ◌∙◌}
 use Rattle.std.specs.Option.{option_map}
 use Rattle.std.proofs.lemmas.Bool.{false≢true}
 use Rattle.uvl_model.specs.Spelling.{numbered}
