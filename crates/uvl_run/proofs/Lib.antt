@@ -5,3 +5,10 @@ pub mod FirstWord
 pub mod Marking
 pub mod PlainWords
 pub mod Sets
+pub mod ThinBytes
+pub mod ThinKinds
+pub mod ThinNames
+pub mod ThinMembers
+pub mod ThinGroups
+pub mod ThinTrees
+pub mod ThinFiles

@@ -1,4 +1,7 @@
 pub mod Examples
 pub mod Lines
 pub mod Replies
+pub mod ThinFault
 pub mod ThinFile
+pub mod ThinParts
+pub mod ThinReading
