@@ -5,7 +5,11 @@ ghost use Rattle.uvl_run.specs.Examples.{thin_answer};
 ghost use Rattle.uvl_run.specs.Lines.{script_lines};
 ghost use Rattle.uvl_run.specs.Replies.{replies_to};
 
+use crate::answer::answer;
+use crate::lines::split_line;
 use crate::reply::Reply;
+use crate::thin::read_thin;
+use std::test::Fail;
 
 /// The answers that the definitions give. What it ensures is all of it.
 fn answers_to_lines()
@@ -46,4 +50,41 @@ fn replies_to_scripts()
 fn lines_have_the_answers_of_the_examples() {
     answers_to_lines();
     replies_to_scripts();
+}
+
+#[test]
+fn the_program_answers_as_the_definitions_do(rt: HostRuntime) -> Result<(), Fail> {
+    let file = b"features\n\tCar\n\t\tmandatory\n\t\t\tBody\n\t\toptional\n\t\t\tRadio\n";
+    let model = read_thin(rt.alloc(), file)?;
+    let mut chosen = vec![in rt.alloc(); true; model.features().len()]?;
+    let rows = [
+        ("valid Car Body", Some(Reply::Yes)),
+        ("valid Car Radio\r", Some(Reply::No)),
+        ("\tvalid  Car\tBody Radio ", Some(Reply::Yes)),
+        ("valid Car Wheel", Some(Reply::UnknownFeature)),
+        ("valid", Some(Reply::No)),
+        (" # valid", None),
+        ("", None),
+        ("valid Car, Body", Some(Reply::UnknownCommand)),
+        ("valid Körper", Some(Reply::UnknownCommand)),
+        ("void", Some(Reply::UnknownCommand)),
+    ];
+    for (line, reply) in rows {
+        assert!(rt; chosen.len() == model.features().len());
+        assert_eq!(rt;
+            answer(&model, &mut chosen, line.as_bytes()),
+            reply,
+            "{line}"
+        );
+    }
+    Ok(())
+}
+
+#[test]
+fn a_line_ends_at_the_first_line_feed(rt: HostRuntime) {
+    assert_eq!(rt;
+        split_line(b"valid\r\n\nvoid"),
+        Some((b"valid\r".as_slice(), b"\nvoid".as_slice()))
+    );
+    assert_eq!(rt; split_line(b"void"), None);
 }
