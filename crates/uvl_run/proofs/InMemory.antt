@@ -32,24 +32,24 @@ long_script script taken left moved long = omega (arith, ap length moved, length
 
 plain : (words : List (List ℕ)) (contents : Contents) (script left taken said : List ℕ) (status : Status) → script ≡ taken ++ left → EndsRun words (Some contents) (Some script) taken said status → CountsReads 0 0 0 0 status → Counts 0 0 (is_write_fault status) → IsRun words contents script said status
 plain words contents script left taken said Done moved ended reads writes = (
-    ended.0,
-    named_model words contents ended.0 ended.1,
-    omega (arith, ap length ended.2.0, ended.2.1),
-    ended.2.2 ∙ ap (λ (t : List ℕ). replies_to ended.0 (script_lines t)) (sym ended.2.0),
-  )
+  ended.0,
+  named_model words contents ended.0 ended.1,
+  omega (arith, ap length ended.2.0, ended.2.1),
+  ended.2.2 ∙ ap (λ (t : List ℕ). replies_to ended.0 (script_lines t)) (sym ended.2.0),
+)
 plain words contents script left taken said Usage moved ended reads writes = (ended.0, ended.2)
 plain words contents script left taken said Model moved ended reads writes =
     (ended.0, ended.1, ended.2.named, ended.2.faulty, ended.4)
 plain words contents script left taken said ReadFault moved ended reads writes =
-    elim reads.rises [ | inl rose ↦ absurd (omega arith) | inr rose ↦ absurd (omega arith) ]
+    elim reads.rises [ inl rose ↦ absurd (omega arith) | inr rose ↦ absurd (omega arith) ]
 plain words contents script left taken said WriteFault moved ended reads writes = let rose = writes.rises in absurd (omega arith)
 plain words contents script left taken said NoMemory moved ended reads writes = tt
 plain words contents script left taken said TooMuchInput moved ended reads writes = (
-    ended.0,
-    named_model words contents ended.0 ended.1,
-    long_script script taken left moved ended.2.0,
-    ended.2.1 ∙ ap (λ (t : List ℕ). replies_to ended.0 (ended_lines t)) (front_of_taken script taken left moved ended.2.0),
-  )
+  ended.0,
+  named_model words contents ended.0 ended.1,
+  long_script script taken left moved ended.2.0,
+  ended.2.1 ∙ ap (λ (t : List ℕ). replies_to ended.0 (ended_lines t)) (front_of_taken script taken left moved ended.2.0),
+)
 
 -- what was said is the run's, and stands behind what was written before
 pub in_memory : (words : List (List ℕ)) (contents : Contents) (script left written_before written : List ℕ) (status : Status) → Answers words (Some contents) (Some script) (Some left) (Some written_before) (Some written) status → CountsReads 0 0 0 0 status → Counts 0 0 (is_write_fault status) → (said : List ℕ) × (written ≡ written_before ++ said) × IsRun words contents script said status

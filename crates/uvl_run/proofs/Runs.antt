@@ -32,7 +32,7 @@ says_once words told input w w' text whole status writes ended (inr put) =
       said = some.0;
       moved = consumes_nothing input;
       wrote = some.2;
-      ends = elim put.0 [ | inl is ↦ subst P (sym is) front | inr is ↦ subst P (sym is) (inr front) ];
+      ends = elim put.0 [ inl is ↦ subst P (sym is) front | inr is ↦ subst P (sym is) (inr front) ];
     }
 
 -- the words were refused

@@ -50,8 +50,8 @@ goes_on model input left left' before w w' line line' xs count so_far moved begu
       moved = consumes_both input left left' taken xs so_far.moved moved;
       begun = begun ∙ ap (λ (t : List ℕ). open_line_from t xs) so_far.begun ∙ sym (open_line_from-append [] taken xs);
       replied = λ tree spells.
-        let P : List ℕ → Type 0 = λ t. Appends before w' t in
-        subst P (lines_of_both tree taken xs line so_far.begun) (appends_both before w w' (replies_to tree (ended_lines taken)) (replies_to tree (ended_lines_from line xs)) (so_far.replied tree spells) (replied tree spells));
+          let P : List ℕ → Type 0 = λ t. Appends before w' t in
+          subst P (lines_of_both tree taken xs line so_far.begun) (appends_both before w w' (replies_to tree (ended_lines taken)) (replies_to tree (ended_lines_from line xs)) (so_far.replied tree spells) (replied tree spells));
     }
 
 -- the source could not give more
@@ -111,12 +111,12 @@ at_end_done model input left left' before w w' line count tree spells within so_
       moved = consumes_both input left left' taken [] so_far.moved moved;
       wrote = appends_both before w w' (replies_to tree (ended_lines taken)) (replies_to tree (last_line line)) (so_far.replied tree spells) wrote;
       ends =
-        let P : List ℕ → Type 0 = λ t. EndsScript tree input t (replies_to tree (ended_lines taken) ++ replies_to tree (last_line line)) Done in
-        subst P (sym (append-nil taken)) (
-          took_all input left taken so_far.moved ended,
-          omega (arith, so_far.counted),
-          all_lines tree taken line so_far.begun,
-        );
+          let P : List ℕ → Type 0 = λ t. EndsScript tree input t (replies_to tree (ended_lines taken) ++ replies_to tree (last_line line)) Done in
+          subst P (sym (append-nil taken)) (
+            took_all input left taken so_far.moved ended,
+            omega (arith, so_far.counted),
+            all_lines tree taken line so_far.begun,
+          );
     }
 
 at_end_fault : (model : Rows) (input left left' before w w' : Option (List ℕ)) (line : List ℕ) (count : ℕ) (tree : Tree) (status : Status) → (status ≡ WriteFault) ⊎ (status ≡ NoMemory) → Spells tree model → SoFar model input left before w line count → IsAtEnd left → Consumes left left' [] → AppendsFront w w' (replies_to tree (last_line line)) → AnswersScript tree input left' before w' status
@@ -124,18 +124,18 @@ at_end_fault model input left left' before w w' line count tree status is spells
     let taken = so_far.taken in
     let both = some_behind before w w' (replies_to tree (ended_lines taken)) (replies_to tree (last_line line)) (so_far.replied tree spells) (some_of_front w w' (replies_to tree (last_line line)) put) in
     let front : IsFrontOfReplies tree input taken both.0 = (
-        replies_to tree (ended_lines taken) ++ replies_to tree (last_line line),
-        inr (took_all input left taken so_far.moved ended, all_lines tree taken line so_far.begun),
-        both.1,
-      ) in
+      replies_to tree (ended_lines taken) ++ replies_to tree (last_line line),
+      inr (took_all input left taken so_far.moved ended, all_lines tree taken line so_far.begun),
+      both.1,
+    ) in
     record {
       taken = taken ++ [];
       said = both.0;
       moved = consumes_both input left left' taken [] so_far.moved moved;
       wrote = both.2;
       ends =
-        let P : List ℕ → Type 0 = λ t. EndsScript tree input t both.0 status in
-        subst P (sym (append-nil taken)) (elim is [
+          let P : List ℕ → Type 0 = λ t. EndsScript tree input t both.0 status in
+          subst P (sym (append-nil taken)) (elim is [
             | inl e ↦ fault_ends tree input taken both.0 Failed status e front
             | inr e ↦ fault_ends tree input taken both.0 OutOfMemory status e front
           ]);

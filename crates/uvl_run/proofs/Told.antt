@@ -83,10 +83,10 @@ some_of_front a b xs front =
 -- behind a text that was written, a front of the next is a front of both
 pub some_behind : (a b c : Option (List ℕ)) (xs ys : List ℕ) → Appends a b xs → AppendsSome b c ys → AppendsSome a c (xs ++ ys)
 some_behind a b c xs ys first second = (
-    xs ++ second.0,
-    (second.1.0, append_assoc xs second.0 second.1.0 ∙ ap (λ (t : List ℕ). xs ++ t) second.1.1),
-    appends_both a b c xs second.0 first second.2,
-  )
+  xs ++ second.0,
+  (second.1.0, append_assoc xs second.0 second.1.0 ∙ ap (λ (t : List ℕ). xs ++ t) second.1.1),
+  appends_both a b c xs second.0 first second.2,
+)
 
 -- a take of nothing says that nothing was left
 pub nothing_left : (before now : Option (List ℕ)) (into : List ℕ) (count : ℕ) → count ≡ 0 → TakesFront before now into count → IsAtEnd before × Consumes before now []
@@ -95,6 +95,7 @@ nothing_left before now into count none took = (ended before took.none_at_end, t
     ended : (left : Option (List ℕ)) → IfSome left (λ bytes. (count ≡ 0) ↔ (bytes ≡ [])) → IsAtEnd left
     ended None exact = tt
     ended (Some bytes) exact = exact.0 none
+
     took_none : Consumes before now []
     took_none =
         let P : ℕ → Type 0 = λ n. Consumes before now (take n into) in

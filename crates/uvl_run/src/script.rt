@@ -9,8 +9,8 @@ ghost use Rattle.uvl_run.specs.Replies.{answer_to, bytes_for, replies_to};
 ghost use Rattle.uvl_run.specs.Script.{AnswersScript, EndsAtLimit};
 ghost use Rattle.uvl_run.specs.Status.{PutsLast, is_read_fault, is_write_fault};
 
-use crate::answer::answer;
 use crate::Status;
+use crate::answer::answer;
 use crate::lines::split_line;
 use std::alloc::{AllocError, Global};
 use uvl_model::Model;
@@ -93,7 +93,11 @@ impl Script {
     }
 
     /// Answers the lines that end in a piece, and keeps what has come of the next.
-    pub(crate) fn answer_piece<K: Sink>(&mut self, piece: &[u8], out: &mut K) -> Result<(), PutFault>
+    pub(crate) fn answer_piece<K: Sink>(
+        &mut self,
+        piece: &[u8],
+        out: &mut K,
+    ) -> Result<(), PutFault>
         ensures model { self.new.model ≡ self.old.model }
         ensures begun { OnOk result (self.new.line.items ≡ open_line_from self.old.line.items piece.now) }
         ensures replies { (tree : Tree) → Spells tree self.old.model →

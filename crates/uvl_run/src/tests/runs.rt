@@ -40,7 +40,12 @@ fn each_status_comes_with_its_bytes(rt: HostRuntime) -> Result<(), Fail> {
     let rows: [(&[&str], [&[u64]; 3], Status, &[u8]); 9] = [
         (&["thin.uvl"], [never, never, never], Status::Done, REPLIES),
         (&[], [never, never, never], Status::Usage, usage),
-        (&["a.uvl", "b.uvl"], [never, never, never], Status::Usage, usage),
+        (
+            &["a.uvl", "b.uvl"],
+            [never, never, never],
+            Status::Usage,
+            usage,
+        ),
         (
             &["no.uvl"],
             [never, never, never],
@@ -55,7 +60,12 @@ fn each_status_comes_with_its_bytes(rt: HostRuntime) -> Result<(), Fail> {
         ),
         (&["thin.uvl"], [first, never, never], Status::ReadFault, b""),
         (&["thin.uvl"], [never, first, never], Status::ReadFault, b""),
-        (&["thin.uvl"], [never, second, never], Status::ReadFault, b"yes\n.\nno\n.\n"),
+        (
+            &["thin.uvl"],
+            [never, second, never],
+            Status::ReadFault,
+            b"yes\n.\nno\n.\n",
+        ),
         (&["-"], [never, never, first], Status::WriteFault, b""),
     ];
     let mut out = Vec::new(alloc);

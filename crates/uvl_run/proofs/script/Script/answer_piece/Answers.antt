@@ -25,13 +25,13 @@ loop-front-preserved g c =
     record {
       same_model = c.in_ok-end_line.ensures.model ∙ l.invariant.same_model;
       same_open =
-        ap (λ (t : List ℕ). open_line_from t behind) c.in_ok-end_line.ensures.begun
-        ∙ sym (ap (open_line_from l.self.line.items) begins.spelled ∙ open_line_from-line l.self.line.items front behind begins.one_line)
-        ∙ l.invariant.same_open;
+          ap (λ (t : List ℕ). open_line_from t behind) c.in_ok-end_line.ensures.begun
+          ∙ sym (ap (open_line_from l.self.line.items) begins.spelled ∙ open_line_from-line l.self.line.items front behind begins.one_line)
+          ∙ l.invariant.same_open;
       same_count = c.in_ok-end_line.ensures.counted.stays ∙ l.invariant.same_count;
       answered = λ tree spells.
-        let Q : Rows → Type 0 = λ model. Spells tree model in
-        goes_on tree _ _ _ l.self.line.items l.rest.now front behind _ _ (l.invariant.answered tree spells) begins c.in_ok-end_line.ensures.begun (c.in_ok-end_line.ensures.reply tree (subst Q (sym l.invariant.same_model) spells));
+          let Q : Rows → Type 0 = λ model. Spells tree model in
+          goes_on tree _ _ _ l.self.line.items l.rest.now front behind _ _ (l.invariant.answered tree spells) begins c.in_ok-end_line.ensures.begun (c.in_ok-end_line.ensures.reply tree (subst Q (sym l.invariant.same_model) spells));
     }
 
 pub returns-in_err-extend_from_slice-clause-replies : goal.returns-in_err-extend_from_slice-clause-replies

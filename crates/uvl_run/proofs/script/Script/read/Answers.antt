@@ -34,8 +34,8 @@ loop-count-preserved g c =
       same_input_count = c.in-Ok.ensures.counted.stays ∙ l.invariant.same_input_count;
       same_out_count = c.in_default.ensures.counted.stays ∙ l.invariant.same_out_count;
       so_far = subst P whole (goes_on _ _ _ _ _ _ _ l.self.line.items _ piece l.count l.invariant.so_far c.in-Ok.ensures.moves.front c.in_default.ensures.begun (λ tree spells.
-        let Q : Rows → Type 0 = λ model. Spells tree model in
-        c.in_default.ensures.replies tree (subst Q (sym l.invariant.same_model) spells)));
+          let Q : Rows → Type 0 = λ model. Spells tree model in
+          c.in_default.ensures.replies tree (subst Q (sym l.invariant.same_model) spells)));
     }
 
 pub returns-clause-script : goal.returns-clause-script
