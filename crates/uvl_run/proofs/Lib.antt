@@ -5,3 +5,4 @@ pub mod ThinMembers
 pub mod ThinGroups
 pub mod ThinTrees
 pub mod ThinFiles
+pub mod OneTree
