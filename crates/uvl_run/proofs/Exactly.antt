@@ -1,5 +1,5 @@
 -- The causes of the statuses exclude one another.
-use Rattle.std.proofs.Common.{◌≡◌, ℕ, ◌<◌, ◌≤◌, Bool, true, false, ltb, ◌⊎◌, List, [], ◌∷◌, ◌++◌, length, Option, Some, None, MatchBool, IfSome, inl, inr, refl, sym, ap, ◌∙◌, subst, arith, length-append}
+use Rattle.std.proofs.Common.{◌≡◌, ℕ, ◌<◌, ◌≤◌, Bool, false, ltb, List, [], ◌∷◌, length, Option, Some, None, MatchBool, IfSome, inl, inr, refl, sym, ap, ◌∙◌, subst, arith, length-append}
 use Rattle.std.proofs.lemmas.Bool.Decides.{nat_tests}
 use Rattle.std.specs.Io.KnownBytes.{Consumes}
 use Rattle.uvl_outside.specs.Files.{Contents}
@@ -9,7 +9,7 @@ use Rattle.uvl_model.specs.Tree.{Tree}
 use Rattle.uvl_run.specs.declared.status.Status.{Status}
 use Rattle.uvl_run.specs.declared.status.Status.TheVariants.{Done, Usage, Model, ReadFault, WriteFault, NoMemory, TooMuchInput}
 use Rattle.uvl_run.specs.CommandLine.{model_path}
-use Rattle.uvl_run.specs.Loading.{IsModelOf, HasFault, LoadsModel, LoadsFault, Tells, IsNoThinFile, most_file_bytes}
+use Rattle.uvl_run.specs.Loading.{IsModelOf, HasFault, LoadsFault, Tells, IsNoThinFile, most_file_bytes}
 use Rattle.uvl_run.specs.Run.{IsRefused, IsAccepted, IsFaulty, EndsRun, Answers}
 use Rattle.uvl_run.specs.Script.{most_script_bytes, TakesAll}
 use Rattle.uvl_run.specs.Exactly.{IsOneOf, HasModel, HasFaultyModel, IsExact}

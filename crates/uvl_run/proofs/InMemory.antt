@@ -1,7 +1,6 @@
 -- Over objects that tell everything and never fail, what a run answers is the run of its files and its script.
-use Rattle.std.proofs.Common.{◌≡◌, ℕ, ◌+◌, ◌<◌, ◌≤◌, ◌⊎◌, min, List, [], ◌++◌, length, take, Option, Some, None, inl, inr, refl, sym, ap, ◌∙◌, subst, arith, length-append}
+use Rattle.std.proofs.Common.{◌≡◌, ℕ, ◌<◌, ◌≤◌, List, ◌++◌, length, take, Option, Some, inl, inr, sym, ap, ◌∙◌, subst, arith, length-append}
 use Rattle.std.proofs.lemmas.List.{take-append-le}
-use Rattle.std.specs.Io.KnownBytes.{Consumes, Appends}
 use Rattle.uvl_outside.specs.Faults.{Counts}
 use Rattle.uvl_outside.specs.Files.{Contents}
 use Rattle.uvl_model.specs.Tree.{Tree}

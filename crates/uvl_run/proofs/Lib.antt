@@ -6,6 +6,7 @@ pub mod FirstWord
 pub mod InMemory
 pub mod Loads
 pub mod Marking
+pub mod OneTree
 pub mod PlainWords
 pub mod Progress
 pub mod Runs

@@ -1,8 +1,6 @@
 -- How each end of a run comes about.
-use Rattle.std.proofs.Common.{◌≡◌, ℕ, ◌⊎◌, List, [], ◌++◌, Option, Some, None, inl, inr, refl, sym, subst, append-nil}
-use Rattle.std.specs.Io.KnownBytes.{Consumes, Appends}
+use Rattle.std.proofs.Common.{◌≡◌, ℕ, List, [], Option, Some, None, inl, inr, refl, sym, subst}
 use Rattle.uvl_outside.specs.Files.{Contents}
-use Rattle.uvl_outside.specs.Sink.{AppendsFront}
 use Rattle.uvl_base.specs.declared.fault.FaultKind.{FaultKind}
 use Rattle.uvl_model.specs.Tree.{Tree}
 use Rattle.uvl_run.specs.declared.status.Status.{Status}
@@ -10,7 +8,7 @@ use Rattle.uvl_run.specs.declared.status.Status.TheVariants.{Done, Usage, Model,
 use Rattle.uvl_run.specs.CommandLine.{model_path, usage_line}
 use Rattle.uvl_run.specs.Loading.{LoadsModel, LoadsFault, at_front}
 use Rattle.uvl_run.specs.Run.{RunWrites, IsFrontOfRun, IsFaulty, IsAccepted, EndsRun, Answers, fault_line}
-use Rattle.uvl_run.specs.Script.{AnswersScript, EndsScript, IsFrontOfReplies}
+use Rattle.uvl_run.specs.Script.{AnswersScript, EndsScript}
 use Rattle.uvl_run.specs.Status.{PutsLast}
 use Rattle.uvl_run.proofs.Told.{appends_nothing, consumes_nothing, some_of_front}
 

@@ -1,5 +1,5 @@
 -- How far a script has been read and answered.
-use Rattle.std.proofs.Common.{◌≡◌, ℕ, ◌+◌, ◌<◌, ◌≤◌, List, [], ◌∷◌, ◌++◌, length, take, Option, Some, None, ◌⊎◌, inl, inr, refl, sym, ap, ◌∙◌, subst, append_assoc, append-nil, arith, length-append}
+use Rattle.std.proofs.Common.{◌≡◌, ℕ, ◌+◌, ◌≤◌, List, [], ◌∷◌, ◌++◌, length, take, Option, Some, None, ◌⊎◌, inl, inr, refl, sym, ap, ◌∙◌, subst, append-nil, arith, length-append}
 use Rattle.std.specs.Io.KnownBytes.{Keeps, Consumes, Appends, IsAtEnd}
 use Rattle.uvl_outside.specs.declared.sink.PutFault.{PutFault}
 use Rattle.uvl_outside.specs.declared.sink.PutFault.TheVariants.{Failed, OutOfMemory}
@@ -11,10 +11,10 @@ use Rattle.uvl_run.specs.declared.status.Status.{Status}
 use Rattle.uvl_run.specs.declared.status.Status.TheVariants.{Done, ReadFault, WriteFault, NoMemory, TooMuchInput}
 use Rattle.uvl_run.specs.Lines.{ended_lines, ended_lines_from, open_line, open_line_from, script_lines, last_line}
 use Rattle.uvl_run.specs.Replies.{replies_to}
-use Rattle.uvl_run.specs.Script.{most_script_bytes, TakesAll, AreRepliesTo, IsFrontOfReplies, AnswersScript, EndsScript, EndsAtLimit}
+use Rattle.uvl_run.specs.Script.{most_script_bytes, TakesAll, IsFrontOfReplies, AnswersScript, EndsScript, EndsAtLimit}
 use Rattle.uvl_run.specs.Status.{PutsLast, status_of}
 use Rattle.uvl_run.proofs.Cutting.{ended_lines_from-append, open_line_from-append, replies_to-append}
-use Rattle.uvl_run.proofs.Told.{appends_nothing, appends_both, consumes_nothing, consumes_both, take_length, AppendsSome, some_of_front, some_behind}
+use Rattle.uvl_run.proofs.Told.{appends_nothing, appends_both, consumes_nothing, consumes_both, take_length, some_of_front, some_behind}
 
 -- So many bytes were taken, the lines that end in them have their replies, and the line that has begun is kept.
 pub record SoFar (model : Rows) (input left written_before written : Option (List ℕ)) (line : List ℕ) (count : ℕ) : Type 0 where

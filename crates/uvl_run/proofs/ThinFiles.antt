@@ -14,11 +14,11 @@ use Rattle.uvl_run.specs.declared.thin.features.Features.{Features}
 use Rattle.uvl_run.specs.declared.thin.kind.GroupKind.{GroupKind}
 use Rattle.uvl_run.specs.declared.thin.kind.GroupKind.TheVariants.{Mandatory, Optional}
 use Rattle.uvl_run.specs.ThinFile.{IsThinFile, AreLeaves, AreThin, kind_word, member_lines, group_lines, is_thin_name}
-use Rattle.uvl_run.specs.ThinParts.{ThinGroup, AreThinNames, AreGroups, word_of, lines_of_members, lines_of_groups, names_in, child_row, feature_rows_of, group_rows_from}
+use Rattle.uvl_run.specs.ThinParts.{ThinGroup, AreThinNames, AreGroups, word_of, least_of, lines_of_members, lines_of_groups, names_in, child_row, feature_rows_of, group_rows_from}
 use Rattle.uvl_run.specs.ThinReading.{ReadsFeature, ReadsGroups, AreThin as AreThinFeatures}
 use Rattle.uvl_run.proofs.ThinBytes.{line_unique, thin-unbroken}
 use Rattle.uvl_run.proofs.ThinNames.{names-front, names-name}
-use Rattle.uvl_run.proofs.ThinTrees.{FileParts, groups_tree, regrouped, lines_of-group, kind_word-zero, kind_word-some, file-parts, within-parts, spells-parts}
+use Rattle.uvl_run.proofs.ThinTrees.{FileParts, leaves, groups_tree, member_count-leaves, regrouped, lines_of-group, kind_word-zero, kind_word-some, file-parts, within-parts, spells-parts}
 
 -- the lines of leaves, by their names
 lines_of-members : (members : Members) → AreLeaves members → (rest : List ℕ) → member_lines members ++ rest ≡ lines_of_members (names_of_members members) rest
@@ -33,14 +33,22 @@ some_members : (members : Members) → 1 ≤ member_count members → names_of_m
 some_members no_members some = absurd (omega arith)
 some_members (member (feature name below) others) some = λ e. cc
 
--- the kind of a group by its lower bound
-record KindOf (lo : ℕ) : Type 0 where
+-- leaves are known by their names
+leaves_of : (members : Members) → AreLeaves members → members ≡ leaves (names_of_members members)
+leaves_of no_members thin = refl
+leaves_of (member (feature name below) others) thin =
+    let childless = ap (λ (m : Members). member (feature name no_groups) m) (leaves_of others thin.1) in
+    subst (λ (b : Groups). member (feature name b) others ≡ leaves (names_of_members (member (feature name b) others))) (sym thin.0) childless
+
+-- the kind of a group by its bounds
+record KindOf (lo hi : ℕ) : Type 0 where
   kind : GroupKind
   word : kind_word lo ≡ word_of kind
+  least : lo ≡ least_of kind hi
 
-kind_of : (lo hi : ℕ) → 1 ≤ hi → (lo ≡ 0) ⊎ (lo ≡ hi) → KindOf lo
-kind_of lo hi some (inl e) = record { kind = Optional; word = kind_word-zero lo e }
-kind_of lo hi some (inr e) = record { kind = Mandatory; word = kind_word-some lo (omega arith) }
+kind_of : (lo hi : ℕ) → 1 ≤ hi → (lo ≡ 0) ⊎ (lo ≡ hi) → KindOf lo hi
+kind_of lo hi some (inl e) = record { kind = Optional; word = kind_word-zero lo e; least = e }
+kind_of lo hi some (inr e) = record { kind = Mandatory; word = kind_word-some lo (omega arith); least = e }
 
 -- Groups by their kinds and names.
 record Parts (below : Groups) : Type 0 where
@@ -48,19 +56,28 @@ record Parts (below : Groups) : Type 0 where
   text : group_lines below ≡ lines_of_groups groups []
   whole : AreGroups groups
   names : names_of_groups below ≡ names_in groups
+  same : below ≡ groups_tree groups
 
 parts_of : (below : Groups) → AreThin below → Parts below
-parts_of no_groups thin = record { groups = []; text = refl; whole = tt; names = refl }
+parts_of no_groups thin = record { groups = []; text = refl; whole = tt; names = refl; same = refl }
 parts_of (group lo hi members others) thin =
+    let names = names_of_members members in
+    let only = leaves_of members thin.1 in
+    let count : hi ≡ length names = thin.2 ∙ ap member_count only ∙ member_count-leaves names in
     let behind = parts_of others thin.4 in
     let kind = kind_of lo hi (let some = thin.0 in let all = thin.2 in omega arith) thin.3 in
     record {
-      groups = record { kind = kind.kind; names = names_of_members members } ∷ behind.groups;
+      groups = record { kind = kind.kind; names = names } ∷ behind.groups;
       text =
-          lines_of-group (kind_word lo) (word_of kind.kind) (member_lines members) (group_lines others) (lines_of_groups behind.groups []) (lines_of_members (names_of_members members) (lines_of_groups behind.groups []))
+          lines_of-group (kind_word lo) (word_of kind.kind) (member_lines members) (group_lines others) (lines_of_groups behind.groups []) (lines_of_members names (lines_of_groups behind.groups []))
           kind.word behind.text (lines_of-members members thin.1 (lines_of_groups behind.groups []));
       whole = (some_members members thin.0, behind.whole);
-      names = ap (λ (names : List (List ℕ)). names_of_members members ++ names) behind.names;
+      names = ap (λ (more : List (List ℕ)). names ++ more) behind.names;
+      same =
+          ap (λ (l : ℕ). group l hi members others) kind.least
+          ∙ ap (λ (h : ℕ). group (least_of kind.kind h) h members others) count
+          ∙ ap (λ (m : Members). group (least_of kind.kind (length names)) (length names) m others) only
+          ∙ ap (λ (o : Groups). group (least_of kind.kind (length names)) (length names) (leaves names) o) behind.same;
     }
 
 -- a thin file's root and groups
@@ -88,6 +105,11 @@ all_names : (start first last : Features) (line rest : List ℕ) (number : Featu
 all_names start first last line rest number rows none root groups =
     let one : first.names ≡ root.found ∷ [] = root.names ∙ ap (λ (front : List (List ℕ)). front ++ root.found ∷ []) none in
     groups.names ∙ ap (λ (front : List (List ℕ)). front ++ names_in groups.found) one
+
+-- they are the tree
+pub tree_of_file : (bytes : List ℕ) (tree : Tree) (file : IsThinFile bytes tree) → tree ≡ feature (parts_of_file bytes tree file).root (groups_tree (parts_of_file bytes tree file).groups)
+unfolding parts_of_file
+tree_of_file bytes (feature name below) file = ap (λ (b : Groups). feature name b) (parts_of below file.thin).same
 
 -- The features and groups that were read are such parts.
 pub read_parts : (bytes line rest : List ℕ) (start first last : Features) (number : FeatureNo) (rows : List GroupRow)

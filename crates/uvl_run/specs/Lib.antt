@@ -2,6 +2,7 @@ pub mod CommandLine
 pub mod Exactly
 pub mod Examples
 pub mod InMemory
+pub mod Laws
 pub mod Lines
 pub mod LoadFaults
 pub mod Loading

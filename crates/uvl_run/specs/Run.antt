@@ -1,5 +1,5 @@
 -- What a run of the program writes, and how it ends, for every command line, every file and every script.
-use Rattle.std.specs.Prelude.{◌≡◌, ℕ, ◌<◌, ◌≤◌, ◌⊎◌, List, [], ◌++◌, length, take, map, Option, Some, None, codes}
+use Rattle.std.specs.Prelude.{◌≡◌, ℕ, ◌≤◌, ◌⊎◌, List, [], ◌++◌, Option, Some, None, codes}
 use Rattle.std.specs.Bool.{OnTrue, OnFalse}
 use Rattle.std.specs.Io.KnownBytes.{Consumes, Appends}
 use Rattle.uvl_outside.specs.Faults.{one_more}
@@ -11,10 +11,8 @@ use Rattle.uvl_model.specs.Tree.{Tree}
 use Rattle.uvl_run.specs.declared.status.Status.{Status}
 use Rattle.uvl_run.specs.declared.status.Status.TheVariants.{Done, Usage, Model, ReadFault, WriteFault, NoMemory, TooMuchInput}
 use Rattle.uvl_run.specs.CommandLine.{model_path, usage_line}
-use Rattle.uvl_run.specs.Lines.{ended_lines, script_lines}
-use Rattle.uvl_run.specs.Loading.{IsModelOf, HasFault, LoadsModel, LoadsFault, at_front}
-use Rattle.uvl_run.specs.Replies.{replies_to}
-use Rattle.uvl_run.specs.Script.{most_script_bytes, IsFrontOf, AreRepliesTo, EndsScript}
+use Rattle.uvl_run.specs.Loading.{LoadsModel, LoadsFault, at_front}
+use Rattle.uvl_run.specs.Script.{IsFrontOf, AreRepliesTo, EndsScript}
 use Rattle.uvl_run.specs.Status.{is_read_fault}
 
 -- the words name no model

@@ -4,6 +4,7 @@
 mod answer;
 mod command_line;
 mod in_memory;
+mod laws;
 mod lines;
 mod load;
 mod reply;
@@ -14,6 +15,7 @@ mod top;
 mod words;
 
 pub use in_memory::run_in_memory;
+pub use laws::{every_script_has_one_cut, thin_files_have_one_tree};
 pub use status::Status;
 pub use top::run;
 

@@ -30,3 +30,6 @@ pub(crate) fn read_thin(alloc: Global, bytes: &[u8]) -> Result<Model, ThinFault>
     let Features { names, rows } = features;
     Ok(Model::new(names, rows, groups))
 }
+
+#[cfg(test)]
+mod tests;

@@ -1,5 +1,5 @@
 -- No byte was left, so the last line is all there is.
-use Rattle.std.proofs.Common.{inl, inr, arith, rules}
+use Rattle.std.proofs.Common.{inl, inr}
 use Rattle.uvl_run.proofs.Told.{nothing_left}
 use Rattle.uvl_run.proofs.script.Script.end_at_limit.Goals as goal
 

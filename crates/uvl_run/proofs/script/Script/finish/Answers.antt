@@ -1,5 +1,5 @@
 -- The last line, where there is one.
-use Rattle.std.proofs.Common.{◌≡◌, ◌≢◌, List, ℕ, length, sym, subst, arith}
+use Rattle.std.proofs.Common.{◌≢◌, List, ℕ, length, sym, subst, arith}
 use Rattle.std.proofs.lemmas.Bool.Decides.{nat_tests}
 use Rattle.uvl_outside.specs.Sink.{AppendsFront}
 use Rattle.uvl_run.specs.Lines.{without_cr}

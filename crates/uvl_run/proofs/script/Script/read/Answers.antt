@@ -1,5 +1,5 @@
 -- How a script is read on, and how each end of it is reached.
-use Rattle.std.proofs.Common.{◌≡◌, ◌+◌, List, ℕ, length, take, sym, subst, ◌∙◌, arith}
+use Rattle.std.proofs.Common.{◌≡◌, ◌+◌, ℕ, length, take, sym, subst, ◌∙◌, arith}
 use Rattle.std.proofs.lemmas.List.{length-take, length-take-le}
 use Rattle.uvl_model.specs.Rows.{Rows}
 use Rattle.uvl_model.specs.Spelling.{Spells}
