@@ -15,7 +15,7 @@ use Rattle.uvl_run.specs.declared.thin.kind.GroupKind.{GroupKind}
 use Rattle.uvl_run.specs.declared.thin.kind.GroupKind.TheVariants.{Mandatory, Optional}
 use Rattle.uvl_run.specs.ThinFile.{IsThinFile, AreLeaves, AreThin, kind_word, member_lines, group_lines, is_thin_name}
 use Rattle.uvl_run.specs.ThinParts.{ThinGroup, AreThinNames, AreGroups, word_of, least_of, lines_of_members, lines_of_groups, names_in, child_row, feature_rows_of, group_rows_from}
-use Rattle.uvl_run.specs.ThinReading.{ReadsFeature, ReadsGroups, AreThin as AreThinFeatures}
+use Rattle.uvl_run.specs.ThinReading.{ReadsFeature, ReadsGroups, AreThinFeatures}
 use Rattle.uvl_run.proofs.ThinBytes.{line_unique, thin-unbroken}
 use Rattle.uvl_run.proofs.ThinNames.{names-front, names-name}
 use Rattle.uvl_run.proofs.ThinTrees.{FileParts, leaves, groups_tree, member_count-leaves, regrouped, lines_of-group, kind_word-zero, kind_word-some, file-parts, within-parts, spells-parts}

@@ -10,7 +10,7 @@ use Rattle.uvl_run.specs.declared.thin.features.Features.{Features}
 use Rattle.uvl_run.specs.declared.thin.kind.GroupKind.{GroupKind}
 use Rattle.uvl_run.specs.declared.thin.kind.GroupKind.TheVariants.{Mandatory, Optional}
 use Rattle.uvl_run.specs.ThinParts.{ThinGroup, AreThinNames, AreGroups, BeginsNoMember, kind_line, least_of, lines_of_members, lines_of_group, lines_of_groups, names_in, numbers_from, group_row, group_rows_from}
-use Rattle.uvl_run.specs.ThinReading.{AreThin, ReadsMembers, ReadsGroup, ReadsGroups}
+use Rattle.uvl_run.specs.ThinReading.{AreThinFeatures, ReadsMembers, ReadsGroup, ReadsGroups}
 use Rattle.uvl_run.proofs.ThinKinds.{third, kind_unique}
 use Rattle.uvl_run.proofs.ThinNames.{names-front, names-back}
 use Rattle.uvl_run.proofs.ThinMembers.{members_unique}
@@ -134,7 +134,7 @@ pub next_group : (known : List (List ℕ)) (rest : List ℕ) → (rest ≡ [] �
 next_group known rest some h = first_of_groups h.groups known rest some h.text h.whole h.thin
 
 -- the group that was read is that one
-pub after_group : (now new : Features) (rest others : List ℕ) (row : GroupRow) → AreThin new → ReadsGroup now new rest row others → BeginsNoMember others → NextGroup now.names rest → GroupsToCome new.names others
+pub after_group : (now new : Features) (rest others : List ℕ) (row : GroupRow) → AreThinFeatures new → ReadsGroup now new rest row others → BeginsNoMember others → NextGroup now.names rest → GroupsToCome new.names others
 after_group now new rest others row thin read ends next =
     let lines = kind_unique next.group.kind read.found.kind _ _ (sym next.text ∙ read.text) in
     let found = subst AreThinNames read.names thin.names in
@@ -181,12 +181,12 @@ groups-push old now new bytes rest others rows row read next =
 
 -- what the loop over groups keeps
 pub record ReadingGroups (old now : Features) (bytes rest : List ℕ) (rows : List GroupRow) : Type 0 where
-  pub thin : AreThin now
+  pub thin : AreThinFeatures now
   pub so_far : ReadsGroups old now bytes rows rest
   pub to_come : GroupsToCome old.names bytes → GroupsToCome now.names rest
 
 -- it begins with no group
-pub groups-begin : (old : Features) (bytes : List ℕ) → AreThin old → ReadingGroups old old bytes bytes []
+pub groups-begin : (old : Features) (bytes : List ℕ) → AreThinFeatures old → ReadingGroups old old bytes bytes []
 groups-begin old bytes thin = record {
   thin = thin;
   so_far = record { found = []; text = refl; whole = tt; names = sym (append-nil old.names); have_rows = refl };
@@ -195,7 +195,7 @@ groups-begin old bytes thin = record {
 
 -- and goes on by one
 pub groups-go_on : (old now new : Features) (bytes rest others : List ℕ) (rows : List GroupRow) (row : GroupRow)
-    → ReadingGroups old now bytes rest rows → (rest ≡ [] → ⊥) → ReadsGroup now new rest row others → BeginsNoMember others → AreThin new
+    → ReadingGroups old now bytes rest rows → (rest ≡ [] → ⊥) → ReadsGroup now new rest row others → BeginsNoMember others → AreThinFeatures new
     → ReadingGroups old new bytes others (rows ++ row ∷ [])
 groups-go_on old now new bytes rest others rows row kept some next ends thin = record {
   thin = thin;

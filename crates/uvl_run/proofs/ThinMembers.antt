@@ -8,7 +8,7 @@ use Rattle.uvl_model.specs.Spelling.{numbered}
 use Rattle.uvl_run.specs.declared.thin.features.Features.{Features}
 use Rattle.uvl_run.specs.ThinFile.{is_thin_name}
 use Rattle.uvl_run.specs.ThinParts.{IsNameLine, AreThinNames, BeginsNoMember, lines_of_members, numbers_from}
-use Rattle.uvl_run.specs.ThinReading.{AreThin, ReadsFeature, ReadsMembers}
+use Rattle.uvl_run.specs.ThinReading.{AreThinFeatures, ReadsFeature, ReadsMembers}
 use Rattle.uvl_run.proofs.ThinBytes.{both, line_unique, thin-unbroken}
 use Rattle.uvl_run.proofs.ThinNames.{names-front, names-name}
 
@@ -83,12 +83,12 @@ members-push old now new bytes rest line others members number read begins next 
 
 -- what the loop over members keeps
 pub record ReadingMembers (old now : Features) (bytes rest : List ℕ) (members : List FeatureNo) : Type 0 where
-  pub thin : AreThin now
+  pub thin : AreThinFeatures now
   pub so_far : ReadsMembers old now bytes members rest
   pub to_come : (after : List ℕ) → BeginsNoMember after → MembersToCome old.names bytes after → MembersToCome now.names rest after
 
 -- it begins with no member
-pub members-begin : (old : Features) (bytes : List ℕ) → AreThin old → ReadingMembers old old bytes bytes []
+pub members-begin : (old : Features) (bytes : List ℕ) → AreThinFeatures old → ReadingMembers old old bytes bytes []
 members-begin old bytes thin = record {
   thin = thin;
   so_far = record { found = []; text = refl; names = sym (append-nil old.names); numbers = refl };
@@ -97,7 +97,7 @@ members-begin old bytes thin = record {
 
 -- and goes on by one
 pub members-go_on : (old now new : Features) (bytes rest line others : List ℕ) (members : List FeatureNo) (number : FeatureNo)
-    → ReadingMembers old now bytes rest members → rest ≡ codes "\t\t\t" ++ line → ReadsFeature now new line number others → AreThin new
+    → ReadingMembers old now bytes rest members → rest ≡ codes "\t\t\t" ++ line → ReadsFeature now new line number others → AreThinFeatures new
     → ReadingMembers old new bytes others (members ++ number ∷ [])
 members-go_on old now new bytes rest line others members number kept begins next thin = record {
   thin = thin;

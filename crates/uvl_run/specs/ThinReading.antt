@@ -7,7 +7,7 @@ use Rattle.uvl_run.specs.declared.thin.features.Features.{Features}
 use Rattle.uvl_run.specs.ThinParts.{ThinGroup, IsNameLine, AreThinNames, AreGroups, feature_rows_of, lines_of_members, lines_of_group, lines_of_groups, names_in, numbers_from, group_row, group_rows_from}
 
 -- the features that are read so far have thin names and the rows of these
-pub record AreThin (features : Features) : Type 0 where
+pub record AreThinFeatures (features : Features) : Type 0 where
   pub names : AreThinNames features.names
   pub rows : features.rows ≡ feature_rows_of features.names
 

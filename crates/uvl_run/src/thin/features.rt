@@ -3,7 +3,7 @@ ghost use Rattle.std.specs.Prelude.{◌≡◌, ◌==◌, [], ◌∷◌, ◌++◌
 ghost use Rattle.uvl_model.specs.Spelling.{numbered};
 ghost use Rattle.uvl_run.specs.ThinFile.{is_thin_name};
 ghost use Rattle.uvl_run.specs.ThinParts.{AreThinNames};
-ghost use Rattle.uvl_run.specs.ThinReading.{AreThin};
+ghost use Rattle.uvl_run.specs.ThinReading.{AreThinFeatures};
 
 use crate::thin::ThinFault;
 use sqlite_items::Items;
@@ -28,7 +28,7 @@ impl Features {
     /// No features.
     pub(crate) fn new(alloc: Global) -> Features
         ensures none { result.names ≡ [] }
-        ensures thin { AreThin result }
+        ensures thin { AreThinFeatures result }
     {
         Features {
             names: NameIndex::new(alloc),
@@ -38,11 +38,11 @@ impl Features {
 
     /// Adds a feature: the root, or else a child of it.
     pub(crate) fn add(&mut self, alloc: Global, name: &str) -> Result<FeatureNo, ThinFault>
-        requires thin { AreThin self.old }
+        requires thin { AreThinFeatures self.old }
         requires name { IsTrue (is_thin_name name.now) }
         ensures number { IfOk result (λ number. number ≡ numbered (length self.old.names)) }
         ensures names { OnOk result (self.new.names ≡ self.old.names ++ name.now ∷ []) }
-        ensures thin { OnOk result (AreThin self.new) }
+        ensures thin { OnOk result (AreThinFeatures self.new) }
         ensures not_thin { IsErrOf result ThinFault.NotThin → AreThinNames (self.old.names ++ name.now ∷ []) → ⊥ }
     {
         let number = self.rows.len();

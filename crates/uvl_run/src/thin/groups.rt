@@ -1,7 +1,7 @@
 //! The groups of a thin file, read from the front of its bytes.
 ghost use Rattle.std.specs.Prelude.{◌≡◌, ◌≢◌, ℕ, List, [], ◌∷◌, ◌++◌, IfOk, OnOk, IsErrOf};
 ghost use Rattle.uvl_run.specs.ThinParts.{ThinGroup, AreGroups, AreThinNames, BeginsNoMember, lines_of_members, lines_of_group, lines_of_groups, names_in};
-ghost use Rattle.uvl_run.specs.ThinReading.{AreThin, ReadsFeature, ReadsMembers, ReadsGroup, ReadsGroups};
+ghost use Rattle.uvl_run.specs.ThinReading.{AreThinFeatures, ReadsFeature, ReadsMembers, ReadsGroup, ReadsGroups};
 
 use crate::thin::ThinFault;
 use crate::thin::features::{Features, ROOT};
@@ -17,9 +17,9 @@ pub(crate) fn read_feature<'a>(
     bytes: &'a [u8],
     features: &mut Features,
 ) -> Result<(FeatureNo, &'a [u8]), ThinFault>
-    requires { AreThin features.old }
+    requires { AreThinFeatures features.old }
     ensures read { IfOk result (λ read. ReadsFeature features.old features.new bytes.now read.0 read.1.now) }
-    ensures thin { OnOk result (AreThin features.new) }
+    ensures thin { OnOk result (AreThinFeatures features.new) }
     ensures not_thin { IsErrOf result ThinFault.NotThin → (name rest : List ℕ) →
         bytes.now ≡ name ++ 10 ∷ rest → AreThinNames (features.old.names ++ name ∷ []) → ⊥ }
 {
@@ -36,10 +36,10 @@ fn read_members<'a>(
     bytes: &'a [u8],
     features: &mut Features,
 ) -> Result<(Items<FeatureNo>, &'a [u8]), ThinFault>
-    requires { AreThin features.old }
+    requires { AreThinFeatures features.old }
     ensures read { IfOk result (λ read. ReadsMembers features.old features.new bytes.now read.0 read.1.now) }
     ensures all { IfOk result (λ read. BeginsNoMember read.1.now) }
-    ensures thin { OnOk result (AreThin features.new) }
+    ensures thin { OnOk result (AreThinFeatures features.new) }
     ensures not_thin { IsErrOf result ThinFault.NotThin → (names : List (List ℕ)) (rest : List ℕ) →
         bytes.now ≡ lines_of_members names rest → BeginsNoMember rest → AreThinNames (features.old.names ++ names) → ⊥ }
 {
@@ -59,10 +59,10 @@ fn read_group<'a>(
     bytes: &'a [u8],
     features: &mut Features,
 ) -> Result<(GroupRow, &'a [u8]), ThinFault>
-    requires { AreThin features.old }
+    requires { AreThinFeatures features.old }
     ensures read { IfOk result (λ read. ReadsGroup features.old features.new bytes.now read.0 read.1.now) }
     ensures all { IfOk result (λ read. BeginsNoMember read.1.now) }
-    ensures thin { OnOk result (AreThin features.new) }
+    ensures thin { OnOk result (AreThinFeatures features.new) }
     ensures not_thin { IsErrOf result ThinFault.NotThin → (group : ThinGroup) (rest : List ℕ) → group.names ≢ [] →
         bytes.now ≡ lines_of_group group rest → BeginsNoMember rest → AreThinNames (features.old.names ++ group.names) → ⊥ }
 {
@@ -89,9 +89,9 @@ pub(crate) fn read_groups(
     bytes: &[u8],
     features: &mut Features,
 ) -> Result<Items<GroupRow>, ThinFault>
-    requires { AreThin features.old }
+    requires { AreThinFeatures features.old }
     ensures read { IfOk result (λ rows. ReadsGroups features.old features.new bytes.now rows []) }
-    ensures thin { OnOk result (AreThin features.new) }
+    ensures thin { OnOk result (AreThinFeatures features.new) }
     ensures not_thin { IsErrOf result ThinFault.NotThin → (groups : List ThinGroup) → AreGroups groups →
         bytes.now ≡ lines_of_groups groups [] → AreThinNames (features.old.names ++ names_in groups) → ⊥ }
 {
