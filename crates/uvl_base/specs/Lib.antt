@@ -1,3 +1,5 @@
 pub mod Fault
+pub mod Identifier
 pub mod Name
+pub mod Number
 pub mod ReservedWords

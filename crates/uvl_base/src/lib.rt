@@ -2,13 +2,17 @@
 #![tactic(auto)]
 
 mod fault;
+mod fixed;
+mod identifier;
 mod name;
 mod place;
 mod text;
 mod words;
 
 pub use fault::{FaultKind, ModelFault};
-pub use name::{Name, NameFault};
+pub use fixed::{Fixed, NumberFault};
+pub use identifier::{begins_identifier, continues_identifier};
+pub use name::{Name, NameFault, is_name};
 pub use place::Place;
 pub use text::{OutOfMemory, Text};
 pub use words::is_reserved;

@@ -1,5 +1,5 @@
 //! Each call that takes memory once, and what is printed of a fault.
-use crate::{FaultKind, ModelFault, Name, NameFault, Place, Text, is_reserved};
+use crate::{FaultKind, Fixed, ModelFault, Name, NameFault, NumberFault, Place, Text, is_reserved};
 use std::test::Fail;
 
 #[test]
@@ -63,5 +63,25 @@ fn a_word_of_uvl_is_reserved_as_it_is_spelled(rt: HostRuntime) {
     }
     for word in ["Features", "boolean", "o", "orr", ""] {
         assert!(rt; !is_reserved(word), "{word}");
+    }
+}
+
+#[test]
+fn a_number_has_six_decimals_at_most(rt: HostRuntime) {
+    let rows = [
+        ("300", Ok(300_000_000)),
+        ("700.5", Ok(700_500_000)),
+        (".5", Ok(500_000)),
+        ("-0.000001", Ok(-1)),
+        ("999999999999.999999", Ok(999_999_999_999_999_999)),
+        ("1234567890123", Err(NumberFault::TooWide)),
+        ("0.0000001", Err(NumberFault::TooWide)),
+        ("1.", Err(NumberFault::Shape)),
+        ("--1", Err(NumberFault::Shape)),
+        ("1..2", Err(NumberFault::Shape)),
+        ("", Err(NumberFault::Shape)),
+    ];
+    for (text, number) in rows {
+        assert_eq!(rt; Fixed::read(text).map(Fixed::millionths), number, "{text}");
     }
 }
