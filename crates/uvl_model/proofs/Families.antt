@@ -5,6 +5,7 @@ use Rattle.std.proofs.lemmas.List.{map-append, length-map}
 use Rattle.uvl_model.specs.declared.rows.FeatureNo.{FeatureNo}
 use Rattle.uvl_model.specs.declared.rows.FeatureRow.{FeatureRow}
 use Rattle.uvl_model.specs.Check.{is_marked, group_holds}
+use Rattle.uvl_model.specs.Marks.{StandFor}
 use Rattle.uvl_model.specs.Names.{feature_names, chosen_names}
 use Rattle.uvl_model.specs.Product.{has, fits, is_absent, is_product}
 use Rattle.uvl_model.specs.Rows.{Rows}
@@ -12,7 +13,7 @@ use Rattle.uvl_model.specs.Sound.{IsSound, AreDistinct}
 use Rattle.uvl_model.specs.Spelling.{Spells, numbered, size_of, size_of_members, feature_rows, feature_rows_of_groups, feature_rows_of_members, group_rows}
 use Rattle.uvl_model.specs.Tree.{Tree, Groups, Members, feature, no_groups, group, no_members, member, top_name, names_of, names_of_groups, names_of_members}
 use Rattle.uvl_model.proofs.Fitting.{tree_holds}
-use Rattle.uvl_model.proofs.Marks.{AgreeFrom, marks_agree, given_marks_agree, agree_same}
+use Rattle.uvl_model.proofs.Marks.{AgreeFrom, marks_agree, given_marks_agree, stand_agree, agree_same}
 use Rattle.uvl_model.proofs.Membership.{marked_within, all_have-same}
 
 mutual
@@ -60,6 +61,15 @@ product_of_chosen rows marks sound many tree spelled =
     let distinct = subst AreDistinct (sym (spelled_names sound.tree rows sound.spelled)) sound.within.distinct in
     let agree = marks_agree (feature_names rows) marks distinct (many ∙ sym (length-map rows.features (λ row. row.name))) in
     sym (product_by_rows marks (chosen_names rows marks) tree rows spelled agree ∙ rw (marked_within (feature_names rows) marks) refl)
+
+-- and so is each set that the marks stand for
+pub product_of_set : (rows : Rows) (marks : List Bool) (tree : Tree) (set : List (List ℕ)) → Spells tree rows → StandFor (names_of tree) marks set
+    → (is_marked marks (numbered 0) && list_all (group_holds marks) rows.groups) ≡ is_product tree set
+product_of_set rows marks tree set spelled stand =
+    let names = spelled_names tree rows spelled in
+    let agree = subst (λ (ns : List (List ℕ)). AgreeFrom marks set 0 ns) (sym names) (stand_agree (names_of tree) marks set stand) in
+    let within : list_all (has (feature_names rows)) set ≡ true = ap (λ (ns : List (List ℕ)). list_all (has ns) set) names ∙ stand.named in
+    sym (product_by_rows marks set tree rows spelled agree ∙ rw within refl)
 
 -- trees that one list of rows spells have the same products
 pub one_family : (first second : Tree) (rows : Rows) → Spells first rows → Spells second rows → (set : List (List ℕ)) → is_product first set ≡ is_product second set

@@ -6,3 +6,4 @@ pub mod Membership
 pub mod NameKeys
 pub mod Places
 pub mod ThinModel
+pub mod TreeNames

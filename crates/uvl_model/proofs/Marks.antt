@@ -1,8 +1,9 @@
 -- Marks that say of each name of a list whether it is in a set.
-use Rattle.std.proofs.Common.{◌≡◌, ℕ, ◌+◌, Bool, true, false, List, [], ◌∷◌, ◌++◌, length, map, Contains, refl, sym, ◌∙◌, subst, add-one, arith, if◌then◌else◌}
+use Rattle.std.proofs.Common.{◌≡◌, ℕ, suc, ◌+◌, Bool, true, false, List, [], ◌∷◌, ◌++◌, length, map, slice_get, Some, Contains, refl, sym, ◌∙◌, subst, add-one, arith, if◌then◌else◌}
 use Rattle.std.proofs.lemmas.Bool.{or_left}
 use Rattle.std.proofs.lemmas.List.Elements.{Contains-append_right, Contains-get_or}
 use Rattle.uvl_model.specs.Check.{is_marked}
+use Rattle.uvl_model.specs.Marks.{StandFor}
 use Rattle.uvl_model.specs.Names.{marked}
 use Rattle.uvl_model.specs.Product.{has}
 use Rattle.uvl_model.specs.Sound.{AreDistinct}
@@ -51,6 +52,24 @@ marks_agree (y ∷ ys) (b ∷ bs) d e =
 pub given_marks_agree : (set names : List (List ℕ)) → AgreeFrom (map (has set) names) set 0 names
 given_marks_agree set [] = tt
 given_marks_agree set (y ∷ ys) = (refl, agree_behind (has set y) (map (has set) ys) set set 0 ys (λ x c. refl) (given_marks_agree set ys))
+
+-- marks that say it of each number agree with the set
+pub each_agrees : (marks : List Bool) (set names : List (List ℕ)) (n : ℕ)
+    → ((k : ℕ) (name : List ℕ) → slice_get names k ≡ Some name → is_marked marks (numbered (n + k)) ≡ has set name) → AgreeFrom marks set n names
+each_agrees marks set [] n each = tt
+each_agrees marks set (y ∷ ys) n each =
+    let first : n + 0 ≡ n = omega arith in (
+      sym (subst (λ (m : ℕ). is_marked marks (numbered m) ≡ has set y) first (each 0 y refl)),
+      each_agrees marks set ys (n + 1) (λ k name at.
+          let later : n + suc k ≡ n + 1 + k = omega arith in
+          subst (λ (m : ℕ). is_marked marks (numbered m) ≡ has set name) later (each (suc k) name at)),
+    )
+
+-- marks that stand for a set agree with it
+pub stand_agree : (names : List (List ℕ)) (marks : List Bool) (set : List (List ℕ)) → StandFor names marks set → AgreeFrom marks set 0 names
+stand_agree names marks set stand =
+    each_agrees marks set names 0 (λ k name at.
+    let here : k ≡ 0 + k = omega arith in subst (λ (m : ℕ). is_marked marks (numbered m) ≡ has set name) here (stand.marked k name at))
 
 -- marks that agree with a set agree with each set of the same members
 pub agree_same : (marks : List Bool) (first second : List (List ℕ)) (n : ℕ) (names : List (List ℕ)) → ((name : List ℕ) → has first name ≡ has second name)

@@ -1,6 +1,7 @@
 pub mod Check
 pub mod Examples
 pub mod Laws
+pub mod Marks
 pub mod Names
 pub mod Product
 pub mod Rows

@@ -1,5 +1,5 @@
 //! A sound feature model.
-ghost use Rattle.std.specs.Prelude.{◌≡◌, ◌<◌, ◌≤◌, ◌↔◌, ℕ, length, slice_get, chars, Contains, IsSome, IfSome, Some};
+ghost use Rattle.std.specs.Prelude.{◌≡◌, ◌<◌, ◌≤◌, ◌↔◌, ℕ, List, length, slice_get, chars, Contains, is_some, IsSome, IfSome, Some};
 
 use crate::check::{groups_hold, is_chosen};
 use crate::{FeatureNo, FeatureRow, GroupRow, NameIndex};
@@ -31,11 +31,12 @@ impl std::marker::Model for Model {
 }
 
 impl Model {
+    ghost use Rattle.uvl_model.specs.Marks.{StandFor};
     ghost use Rattle.uvl_model.specs.Names.{feature_names, chosen_names};
-    ghost use Rattle.uvl_model.specs.Product.{is_product};
+    ghost use Rattle.uvl_model.specs.Product.{has, is_product};
     ghost use Rattle.uvl_model.specs.Sound.{IsSound};
     ghost use Rattle.uvl_model.specs.Spelling.{Spells, numbered};
-    ghost use Rattle.uvl_model.specs.Tree.{Tree};
+    ghost use Rattle.uvl_model.specs.Tree.{Tree, names_of};
 
     /// The model with these rows, whose names the index has by number.
     pub fn new(names: NameIndex, features: Items<FeatureRow>, groups: Items<GroupRow>) -> Model
@@ -69,12 +70,15 @@ impl Model {
         self.groups.as_slice()
     }
 
-    /// The number of the feature with this name.
+    /// The number of the feature with this name: its place among the names of the tree.
     pub fn find(&self, name: &str) -> Option<FeatureNo>
         ensures exact { (n : ℕ) → (result ≡ Some (numbered n))
             ↔ (slice_get (feature_names self.now) n ≡ Some (chars name.now)) }
         ensures known { IsSome result ↔ Contains (feature_names self.now) (chars name.now) }
         ensures within { IfSome result (λ f. f.0 < length self.now.features) }
+        ensures in_tree { (tree : Tree) → Spells tree self.now → is_some result ≡ has (names_of tree) (chars name.now) }
+        ensures place_in_tree { (tree : Tree) → Spells tree self.now →
+            (n : ℕ) → (result ≡ Some (numbered n)) ↔ (slice_get (names_of tree) n ≡ Some (chars name.now)) }
     {
         self.names.find(name)
     }
@@ -85,6 +89,8 @@ impl Model {
         requires { length chosen.now ≡ length self.now.features }
         ensures product { (tree : Tree) → Spells tree self.now
             → result ≡ is_product tree (chosen_names self.now chosen.now) }
+        ensures each_set { (tree : Tree) (set : List (List ℕ)) → Spells tree self.now
+            → StandFor (names_of tree) chosen.now set → result ≡ is_product tree set }
         ensures sound { IsSound self.now }
     {
         is_chosen(FeatureNo(0), chosen) && groups_hold(self.groups.as_slice(), chosen)

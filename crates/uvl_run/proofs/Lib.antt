@@ -1,6 +1,5 @@
 pub mod Cutting
 pub mod Exactly
-pub mod Finding
 pub mod FirstLine
 pub mod FirstWord
 pub mod InMemory
@@ -10,7 +9,6 @@ pub mod OneTree
 pub mod PlainWords
 pub mod Progress
 pub mod Runs
-pub mod Sets
 pub mod SoFar
 pub mod ThinBytes
 pub mod ThinFiles

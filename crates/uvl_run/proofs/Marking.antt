@@ -1,88 +1,98 @@
 -- A mark for each named feature stands for the list of the names.
-use Rattle.std.proofs.Common.{◌≡◌, ℕ, zero, suc, ◌||◌, Bool, true, false, cond, List, [], ◌∷◌, ◌++◌, length, set, replicate, Some, refl, sym, ap, ◌∙◌, arith, append-nil}
-use Rattle.std.specs.List.{list_all, slice_get}
+use Rattle.std.proofs.Common.{◌≡◌, ◌↔◌, ◌<◌, ℕ, ◌||◌, Bool, true, false, cond, List, [], ◌∷◌, ◌++◌, length, set, replicate, Some, refl, sym, ap, ◌∙◌, append-nil, append_assoc, inl, inr}
+use Rattle.std.specs.List.{slice_get}
 use Rattle.std.specs.Str.{bytes_eq}
-use Rattle.std.proofs.lemmas.Bool.{and_left, and_right, cond-true, cond-false}
-use Rattle.std.proofs.lemmas.List.{length-map}
+use Rattle.std.proofs.lemmas.Bool.{and_from, or_from, or_left, or_right, cases_eq, cases_lt, cond-true, false_from_ne_true}
+use Rattle.std.proofs.lemmas.List.{length-replicate, get_or-replicate, get_or-set_same, get_or-set_other, get_or_past}
 use Rattle.std.proofs.lemmas.List.Folds.{list_any-append, list_all-append}
-use Rattle.uvl_model.specs.Tree.{Tree, names_of}
-use Rattle.uvl_model.specs.Rows.{Rows}
-use Rattle.uvl_model.specs.Names.{marked, feature_names, chosen_names}
+use Rattle.std.proofs.lemmas.Option.{same_Some, unwrap_or-slice_get}
+use Rattle.std.proofs.lemmas.Slice.Eq.{bytes_eq-Decides}
+use Rattle.uvl_model.specs.declared.rows.FeatureNo.{FeatureNo}
+use Rattle.uvl_model.specs.Check.{is_marked}
+use Rattle.uvl_model.specs.Marks.{StandFor}
 use Rattle.uvl_model.specs.Product.{has, is_product}
-use Rattle.uvl_model.specs.Spelling.{Spells}
-use Rattle.uvl_model.proofs.Families.{spelled_names}
-use Rattle.uvl_model.proofs.Membership.{marked_within}
-use Rattle.uvl_run.specs.declared.reply.Reply.TheVariants.{Yes, No, UnknownFeature}
+use Rattle.uvl_model.specs.Rows.{Rows}
+use Rattle.uvl_model.specs.Spelling.{Spells, numbered}
+use Rattle.uvl_model.specs.Tree.{Tree, names_of}
+use Rattle.uvl_run.specs.declared.reply.Reply.TheVariants.{Yes, No}
 use Rattle.uvl_run.specs.Replies.{answer_to_valid}
-use Rattle.uvl_run.proofs.Sets.{SameSet, answer_to_valid-SameSet}
 
--- without marks no name is chosen
-pub marked-replicate : (names : List (List ℕ)) (n : ℕ) → marked names (replicate n false) ≡ []
-marked-replicate [] n = refl
-marked-replicate (name ∷ names) zero = refl
-marked-replicate (name ∷ names) (suc n) = marked-replicate names n
+-- the marks stand for the words in front of those that are left
+pub record AreMarked (rows : Rows) (marks : List Bool) (words left : List (List ℕ)) : Type 0 where
+  pub front : List (List ℕ)
+  pub whole : words ≡ front ++ left
+  pub stand : (tree : Tree) → Spells tree rows → StandFor (names_of tree) marks front
 
-marked_again : (b same other : Bool) → (same || other) ≡ (same || cond b (same || other) other)
-marked_again true true other = refl
-marked_again true false other = refl
-marked_again false same other = refl
+none_marked : (n k : ℕ) → is_marked (replicate n false) (numbered k) ≡ false
+none_marked n k =
+    unwrap_or-slice_get (replicate n false) k false
+    ∙ elim (cases_lt k n) [
+      | inl within ↦ get_or-replicate n k false false within
+      | inr past ↦ get_or_past (replicate n false) k false (rw (length-replicate n false) past)
+    ]
 
-marked_later : (here same other : Bool) → (here || (same || other)) ≡ (same || (here || other))
-marked_later true true other = refl
-marked_later true false other = refl
-marked_later false same other = refl
+-- no marks stand for no names
+pub stand-none : (names : List (List ℕ)) (n : ℕ) → StandFor names (replicate n false) []
+stand-none names n = record { named = refl; marked = λ k name at. none_marked n k }
 
-has-cond : (b : Bool) (y : List ℕ) (names : List (List ℕ)) (x : List ℕ) → has (cond b (y ∷ names) names) x ≡ cond b (bytes_eq x y || has names x) (has names x)
-has-cond true y names x = refl
-has-cond false y names x = refl
+module _ (marks : List Bool) (k : ℕ) where
+  -- the feature that is marked
+  marked_here : k < length marks → is_marked (set marks k true) (numbered k) ≡ true
+  marked_here within = unwrap_or-slice_get (set marks k true) k false ∙ get_or-set_same marks k true false within
+
+  -- each other keeps its mark
+  marked_elsewhere : (n : ℕ) → (n ≡ k → ⊥) → is_marked (set marks k true) (numbered n) ≡ is_marked marks (numbered n)
+  marked_elsewhere n other =
+      unwrap_or-slice_get (set marks k true) n false ∙ get_or-set_other marks k n true false other ∙ sym (unwrap_or-slice_get marks n false)
+
+has-last : (front : List (List ℕ)) (word name : List ℕ) → has (front ++ word ∷ []) name ≡ (has front name || (bytes_eq name word || false))
+has-last front word name = list_any-append (bytes_eq name) front (word ∷ [])
 
 -- one mark more is one name more
-marked-set : (names : List (List ℕ)) (marks : List Bool) (k : ℕ) (word x : List ℕ) → length marks ≡ length names → slice_get names k ≡ Some word
-    → has (marked names (set marks k true)) x ≡ (bytes_eq x word || has (marked names marks) x)
-marked-set [] marks k word x many at = cc
-marked-set (y ∷ ys) [] k word x many at = absurd (omega arith)
-marked-set (y ∷ ys) (b ∷ bs) zero word x many at =
-    let is : y ≡ word = cc in
-    marked_again b (bytes_eq x y) (has (marked ys bs) x)
-    ∙ ap (λ it. bytes_eq x y || it) (sym (has-cond b y (marked ys bs) x))
-    ∙ ap (λ w. bytes_eq x w || has (marked (y ∷ ys) (b ∷ bs)) x) is
-marked-set (y ∷ ys) (b ∷ bs) (suc k) word x many at =
-    has-cond b y (marked ys (set bs k true)) x
-    ∙ ap (λ it. cond b (bytes_eq x y || it) it) (marked-set ys bs k word x (omega arith) at)
-    ∙ later b
-    ∙ ap (λ it. bytes_eq x word || it) (sym (has-cond b y (marked ys bs) x))
+pub stand-more : (names : List (List ℕ)) (marks : List Bool) (front : List (List ℕ)) (word : List ℕ) (f : FeatureNo) → f.0 < length marks → has names word ≡ true
+    → ((n : ℕ) → (Some f ≡ Some (numbered n)) ↔ (slice_get names n ≡ Some word)) → StandFor names marks front → StandFor names (set marks f.0 true) (front ++ word ∷ [])
+stand-more names marks front word f within known place stand = record {
+  named = list_all-append (has names) front (word ∷ []) ∙ and_from _ _ stand.named (and_from _ _ known refl);
+  marked = λ n name at. elim (cases_eq n f.0) [
+    | inl here ↦ first n name at here
+    | inr other ↦
+        let out : bytes_eq name word ≡ false =
+        false_from_ne_true _ (λ e. other (sym (place_is n (at ∙ ap Some ((bytes_eq-Decides name word).0 e))))) in
+        marked_elsewhere marks f.0 n other ∙ stand.marked n name at ∙ sym (has-last front word name ∙ without (has front name) (bytes_eq name word) out)
+  ];
+}
   where
-    later : (v : Bool) → cond v (bytes_eq x y || (bytes_eq x word || has (marked ys bs) x)) (bytes_eq x word || has (marked ys bs) x) ≡ (bytes_eq x word || cond v (bytes_eq x y || has (marked ys bs) x) (has (marked ys bs) x))
-    later true = marked_later (bytes_eq x y) (bytes_eq x word) (has (marked ys bs) x)
-    later false = refl
+    place_is : (n : ℕ) → slice_get names n ≡ Some word → f.0 ≡ n
+    place_is n at = ap (λ (g : FeatureNo). g.0) (same_Some _ _ ((place n).1 at))
 
-moved : (same chosen left : Bool) → (chosen || (same || left)) ≡ ((same || chosen) || left)
-moved true true left = refl
-moved true false left = refl
-moved false chosen left = refl
+    without : (x y : Bool) → y ≡ false → (x || (y || false)) ≡ x
+    without true y e = refl
+    without false y e = or_from y false e refl
 
--- a word that is marked may leave the list of words
-marked_word : (names : List (List ℕ)) (marks : List Bool) (k : ℕ) (word : List ℕ) (words : List (List ℕ)) → length marks ≡ length names → slice_get names k ≡ Some word
-    → SameSet (marked names marks ++ word ∷ words) (marked names (set marks k true) ++ words)
-marked_word names marks k word words many at x =
-    list_any-append (bytes_eq x) (marked names marks) (word ∷ words)
-    ∙ moved (bytes_eq x word) (has (marked names marks) x) (has words x)
-    ∙ ap (λ it. it || has words x) (sym (marked-set names marks k word x many at))
-    ∙ sym (list_any-append (bytes_eq x) (marked names (set marks k true)) words)
+    first : (n : ℕ) (name : List ℕ) → slice_get names n ≡ Some name → n ≡ f.0 → is_marked (set marks f.0 true) (numbered n) ≡ has (front ++ word ∷ []) name
+    first n name at here =
+        let same : name ≡ word = same_Some _ _ (sym (ap (slice_get names) (sym here) ∙ at) ∙ (place f.0).0 refl) in
+        ap (λ (m : ℕ). is_marked (set marks f.0 true) (numbered m)) here
+        ∙ marked_here marks f.0 within
+        ∙ sym (has-last front word name ∙ or_right (has front name) _ (or_left _ _ ((bytes_eq-Decides name word).1 same)))
 
-pub answer_to_valid-marked : (tree : Tree) (rows : Rows) (marks : List Bool) (k : ℕ) (word : List ℕ) (words : List (List ℕ)) → length marks ≡ length rows.features → slice_get (feature_names rows) k ≡ Some word
-    → answer_to_valid tree (chosen_names rows marks ++ word ∷ words) ≡ answer_to_valid tree (chosen_names rows (set marks k true) ++ words)
-answer_to_valid-marked tree rows marks k word words many at =
-    answer_to_valid-SameSet tree _ _ (marked_word (feature_names rows) marks k word words (many ∙ sym (length-map rows.features (λ row. row.name))) at)
+-- a word that names a feature goes to the marked ones
+pub AreMarked-word : (rows : Rows) (marks : List Bool) (words : List (List ℕ)) (word : List ℕ) (left next : List (List ℕ)) (f : FeatureNo) → left ≡ word ∷ next → f.0 < length marks
+    → ((tree : Tree) → Spells tree rows → true ≡ has (names_of tree) word)
+    → ((tree : Tree) → Spells tree rows → (n : ℕ) → (Some f ≡ Some (numbered n)) ↔ (slice_get (names_of tree) n ≡ Some word))
+    → AreMarked rows marks words left → AreMarked rows (set marks f.0 true) words next
+AreMarked-word rows marks words word left next f steps within known place before = record {
+  front = before.front ++ word ∷ [];
+  whole = before.whole ∙ ap (λ (words : List (List ℕ)). before.front ++ words) steps ∙ sym (append_assoc before.front (word ∷ []) next);
+  stand = λ tree spelled. stand-more (names_of tree) marks before.front word f within (sym (known tree spelled)) (place tree spelled) (before.stand tree spelled);
+}
 
--- a word that names no feature is refused
-pub answer_to_valid-unknown : (tree : Tree) (names : List (List ℕ)) (word : List ℕ) (words : List (List ℕ)) → has (names_of tree) word ≡ false → answer_to_valid tree (names ++ word ∷ words) ≡ UnknownFeature
-answer_to_valid-unknown tree names word words unknown =
-    let p = has (names_of tree) in
-    cond-false _ _ _ (list_all-append p names (word ∷ words) ∙ and_right (list_all p names) (list_all p (word ∷ words)) (and_left (p word) (list_all p words) unknown))
-
--- marks alone are answered by whether the marked features are a product
-pub answer_to_valid-chosen : (tree : Tree) (rows : Rows) (marks : List Bool) → Spells tree rows → answer_to_valid tree (chosen_names rows marks ++ []) ≡ cond (is_product tree (chosen_names rows marks)) Yes No
-answer_to_valid-chosen tree rows marks spelled =
-    ap (answer_to_valid tree) (append-nil (chosen_names rows marks))
-    ∙ cond-true _ _ _ (ap (λ names. list_all (has names) (chosen_names rows marks)) (sym (spelled_names tree rows spelled)) ∙ marked_within (feature_names rows) marks)
+-- where no word is left, the marks tell the answer
+pub answer_to_valid-marked : (rows : Rows) (marks : List Bool) (words left : List (List ℕ)) → left ≡ [] → AreMarked rows marks words left → (product : Bool)
+    → ((tree : Tree) (names : List (List ℕ)) → Spells tree rows → StandFor (names_of tree) marks names → product ≡ is_product tree names)
+    → (tree : Tree) → Spells tree rows → answer_to_valid tree words ≡ cond product Yes No
+answer_to_valid-marked rows marks words left none marked product each tree spelled =
+    let stand = marked.stand tree spelled in
+    ap (answer_to_valid tree) (marked.whole ∙ ap (λ (last : List (List ℕ)). marked.front ++ last) none ∙ append-nil marked.front)
+    ∙ cond-true _ _ _ stand.named
+    ∙ ap (λ b. cond b Yes No) (sym (each tree marked.front spelled stand))

@@ -1,9 +1,8 @@
 //! The answer to a line of a script.
-ghost use Rattle.std.specs.Prelude.{◌≡◌, ◌<◌, length, slice_get, is_some, IfSome, IsTrue, Some};
+ghost use Rattle.std.specs.Prelude.{◌≡◌, ◌<◌, ◌↔◌, ℕ, length, slice_get, is_some, IfSome, IsTrue, Some};
 ghost use Rattle.std.specs.List.{list_all};
-ghost use Rattle.uvl_model.specs.Names.{feature_names};
 ghost use Rattle.uvl_model.specs.Product.{has};
-ghost use Rattle.uvl_model.specs.Spelling.{Spells};
+ghost use Rattle.uvl_model.specs.Spelling.{Spells, numbered};
 ghost use Rattle.uvl_model.specs.Tree.{Tree, names_of};
 ghost use Rattle.uvl_run.specs.Lines.{without_cr, words_of};
 ghost use Rattle.uvl_run.specs.Replies.{answer_to, answer_to_words, answer_to_valid, is_plain, is_word_byte};
@@ -64,7 +63,8 @@ fn answer_to_valid(model: &Model, chosen: &mut [bool], names: Words) -> Reply
 fn find_word(model: &Model, word: &[u8]) -> Option<FeatureNo>
     requires { IsTrue (list_all is_word_byte word.now) }
     ensures known { (tree : Tree) → Spells tree model.now → is_some result ≡ has (names_of tree) word.now }
-    ensures named { IfSome result (λ feature. slice_get (feature_names model.now) feature.0 ≡ Some word.now) }
+    ensures placed { (tree : Tree) → Spells tree model.now →
+        (n : ℕ) → (result ≡ Some (numbered n)) ↔ (slice_get (names_of tree) n ≡ Some word.now) }
     ensures within { IfSome result (λ feature. feature.0 < length model.now.features) }
 {
     match str::from_utf8(word) {

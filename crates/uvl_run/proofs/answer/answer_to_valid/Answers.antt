@@ -1,12 +1,12 @@
--- Each word that names a feature goes from the words that are left to the chosen features.
-use Rattle.std.proofs.Common.{◌≡◌, false, true, [], ◌∷◌, ◌++◌, length, replicate, sym, ap, ◌∙◌, cond, arith}
+-- Each word that names a feature goes from the words that are left to the marked ones.
+use Rattle.std.proofs.Common.{◌≡◌, Bool, false, true, List, [], ◌∷◌, length, replicate, sym, ap, ◌∙◌, subst, arith}
 use Rattle.std.specs.List.{list_all}
 use Rattle.std.proofs.lemmas.Bool.{and_parts}
-use Rattle.uvl_model.specs.Names.{feature_names, chosen_names}
-use Rattle.uvl_run.specs.declared.reply.Reply.TheVariants.{Yes, No}
+use Rattle.uvl_model.specs.Marks.{StandFor}
+use Rattle.uvl_model.specs.Tree.{names_of}
 use Rattle.uvl_run.specs.Lines.{words_of}
-use Rattle.uvl_run.specs.Replies.{answer_to_valid, is_word_byte}
-use Rattle.uvl_run.proofs.Marking.{marked-replicate, answer_to_valid-marked, answer_to_valid-chosen}
+use Rattle.uvl_run.specs.Replies.{is_word_byte}
+use Rattle.uvl_run.proofs.Marking.{AreMarked-word, stand-none, answer_to_valid-marked}
 use Rattle.uvl_run.proofs.answer.answer_to_valid.Goals as goal
 
 pub loop-name-init : goal.loop-name-init
@@ -17,10 +17,13 @@ loop-name-init c =
       can_go_on = tt;
       ends = tt;
       plain = ap (λ words. list_all (list_all is_word_byte) (words_of words.line.now)) same ∙ c.requires.plain;
-      answered = λ tree spelled.
-          let left = words_of c.into_iter-name-iterator.result.line.now in
-          ap (λ words. answer_to_valid tree (words_of words.line.now)) (sym same)
-          ∙ ap (λ names. answer_to_valid tree (names ++ left)) (sym (ap (chosen_names c.args.model.now) blank ∙ marked-replicate (feature_names c.args.model.now) (length c.args.chosen.now)));
+      marked = record {
+        front = [];
+        whole = ap (λ words. words_of words.line.now) (sym same);
+        stand = λ tree spelled.
+            let P : List Bool → Type 0 = λ marks. StandFor (names_of tree) marks [] in
+            subst P (sym blank) (stand-none (names_of tree) (length c.args.chosen.now));
+      };
     }
 
 pub loop-name-preserved : goal.loop-name-preserved
@@ -29,22 +32,21 @@ loop-name-preserved c =
     let left = words_of c.next.new.self.line.now in
     let steps : words_of c.loop-name.name-iterator.line.now ≡ name ∷ left = c.in-Some.ensures.steps in
     let plain : list_all (list_all is_word_byte) (name ∷ left) ≡ true = ap (list_all (list_all is_word_byte)) (sym steps) ∙ c.loop-name.invariant.plain in
+    let found = c.in-Some-find_word.ensures in
     record {
       can_go_on = tt;
       ends = tt;
       plain = (and_parts (list_all is_word_byte name) (list_all (list_all is_word_byte) left) plain).1;
-      answered = λ tree spelled.
-          c.loop-name.invariant.answered tree spelled
-          ∙ ap (λ words. answer_to_valid tree (chosen_names c.args.model.now c.loop-name.chosen ++ words)) steps
-          ∙ answer_to_valid-marked tree c.args.model.now c.loop-name.chosen c.in-Some-find_word.feature.0 name left (omega arith) c.in-Some-find_word.ensures.named;
+      marked = AreMarked-word c.args.model.now c.loop-name.chosen _ name _ left c.in-Some-find_word.feature steps (omega (arith, found.within))
+          found.known found.placed c.loop-name.invariant.marked;
     }
+
+pub returns-then-is_product : goal.returns-then-is_product
+returns-then-is_product c = λ tree spelled.
+    sym (answer_to_valid-marked c.args.model.now c.loop-name.chosen _ _ c.in-None.ensures.steps.0 c.loop-name.invariant.marked true
+    (λ t names s stand. sym c.if-is_product.true ∙ c.is_product.ensures.each_set t names s stand) tree spelled)
 
 pub returns-else-is_product : goal.returns-else-is_product
 returns-else-is_product c = λ tree spelled.
-    let steps : words_of c.loop-name.name-iterator.line.now ≡ [] = c.in-None.ensures.steps.0 in
-    sym (
-    c.loop-name.invariant.answered tree spelled
-    ∙ ap (λ words. answer_to_valid tree (chosen_names c.args.model.now c.loop-name.chosen ++ words)) steps
-    ∙ answer_to_valid-chosen tree c.args.model.now c.loop-name.chosen spelled
-    ∙ ap (λ product. cond product Yes No) (sym (c.if-is_product.ensures.product tree spelled))
-    )
+    sym (answer_to_valid-marked c.args.model.now c.loop-name.chosen _ _ c.in-None.ensures.steps.0 c.loop-name.invariant.marked false
+    (λ t names s stand. sym c.if-is_product.false ∙ c.is_product.ensures.each_set t names s stand) tree spelled)
