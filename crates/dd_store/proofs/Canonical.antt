@@ -40,10 +40,13 @@ ordered-rest v vs rows absent ordered = record { among = among'; below = below' 
   where
     inside_all : (w : ℕ) → IsIn vs w → IsIn (v ∷ vs) w
     inside_all w inside = rw (not_first v vs w absent inside) (omega arith)
+
     lower : (n : ℕ) (r : Row) (b : Bool) → rows n ≡ Some r → IsIn vs r.var.0 → 0 < level_of_row (v ∷ vs) (rows (end_of r b))
     lower n r b is inside = let below = ordered.below n r b is (inside_all r.var.0 inside) in omega arith
+
     among' : (n : ℕ) (r : Row) (b : Bool) → rows n ≡ Some r → IsIn vs r.var.0 → IsAmong vs (rows (end_of r b)) (end_of r b)
     among' n r b is inside = among-rest v vs _ _ (lower n r b is inside) (ordered.among n r b is (inside_all r.var.0 inside))
+
     below' : (n : ℕ) (r : Row) (b : Bool) → rows n ≡ Some r → IsIn vs r.var.0 → level_in vs r.var.0 < level_of_row vs (rows (end_of r b))
     below' n r b is inside =
         let below = rw (not_first v vs r.var.0 absent inside) at (ordered.below n r b is (inside_all r.var.0 inside)) in
@@ -61,6 +64,7 @@ among-step v vs rows n b ordered among = by (rows n) refl among
       where
         below : level_in (v ∷ vs) r.var.0 < level_of_row (v ∷ vs) (rows (end_of r b))
         below = ordered.below n r b e among
+
         within : (t : Bool) → (v.0 == r.var.0) ≡ t → IsAmong vs (rows (cond t (end_of r b) n)) (cond t (end_of r b) n)
         within true tests = among-rest v vs _ _ (omega (arith, below)) (ordered.among n r b e among)
         within false tests = rw e (let inside = rw tests at among in omega arith)
@@ -109,9 +113,9 @@ same-among [] rows distinct ordered differ unique m n among_m among_n same =
     constant (Some r) k among = absurd (omega arith)
 same-among (v ∷ vs) rows distinct ordered differ unique m n among_m among_n same =
     same-steps v.0 rows differ unique m n (rows m) (rows n) refl refl (λ b.
-        same-among vs rows distinct.1 (ordered-rest v vs rows distinct.0 ordered) differ unique _ _
-            (among-step v vs rows m b ordered among_m) (among-step v vs rows n b ordered among_n)
-            (λ a. moved b a m ∙ same (with_value a v.0 b) ∙ sym (moved b a n)))
+    same-among vs rows distinct.1 (ordered-rest v vs rows distinct.0 ordered) differ unique _ _
+    (among-step v vs rows m b ordered among_m) (among-step v vs rows n b ordered among_n)
+    (λ a. moved b a m ∙ same (with_value a v.0 b) ∙ sym (moved b a n)))
   where
     moved : (b : Bool) (a : ℕ → Bool) (k : ℕ) → value_in vs rows a (step (rows k) v.0 k b) ≡ value_in (v ∷ vs) rows (with_value a v.0 b) k
     moved b a k =
@@ -130,8 +134,9 @@ canonical order rows reduced m n there_m there_n same =
         by : (o : Option Row) → rows k ≡ o → IsThere rows k → IsAmong order o k
         by None e there = let some = rw e at there in grind arith
         by (Some r) e there = reduced.tested k r e
+
     ordered : IsOrderedFrom order rows
     ordered = record {
       among = λ k r b is _. among (end_of r b) (reduced.ends_there k r b is);
-      below = λ k r b is _. reduced.ends_below k r b is
+      below = λ k r b is _. reduced.ends_below k r b is;
     }

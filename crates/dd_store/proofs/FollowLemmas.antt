@@ -39,10 +39,10 @@ follow-node (v ∷ vs) rows a n r is inside below =
     let stays : step (rows c) v.0 c (a v.0) ≡ c = step-stays v vs (rows c) c (a v.0) lower in
     let level : level_of_row (v ∷ vs) (rows c) ≡ suc (level_of_row vs (rows c)) = level-stays v vs (rows c) lower in
     rw (is, stays) (by (v.0 == r.var.0) refl
-        (λ (e : (v.0 == r.var.0) ≡ false).
-            let inside' = rw e at inside in
-            let below' = rw (e, level) at below in
-            follow-node vs rows a n r is (omega arith) (omega arith)))
+    (λ (e : (v.0 == r.var.0) ≡ false).
+    let inside' = rw e at inside in
+    let below' = rw (e, level) at below in
+    follow-node vs rows a n r is (omega arith) (omega arith)))
   where
     by : (t : Bool) → (v.0 == r.var.0) ≡ t → ((v.0 == r.var.0) ≡ false → follow vs rows a n ≡ follow vs rows a (end_of r (a r.var.0)))
         → follow vs rows a (cond t (end_of r (a v.0)) n) ≡ follow vs rows a (end_of r (a r.var.0))

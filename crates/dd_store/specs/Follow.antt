@@ -1,5 +1,5 @@
 -- The value of a node under an assignment, found by following ends: low for no and high for yes (Bryant 1986).
-use Rattle.std.specs.Prelude.{◌≡◌, ℕ, ◌≤◌, Bool, List, [], ◌∷◌, ◌==◌, if◌then◌else◌, Option, Some, None, IsSome}
+use Rattle.std.specs.Prelude.{◌≡◌, ℕ, ◌≤◌, Bool, false, List, [], ◌∷◌, ◌==◌, if◌then◌else◌, Option, Some, None, IsSome, slice_index_or}
 use Rattle.dd_store.specs.declared.row.Row.{Row}
 use Rattle.dd_store.specs.declared.row.Var.{Var}
 
@@ -24,6 +24,10 @@ value_in order rows a n = follow order rows a n == 1
 -- the assignment with this value for one variable
 abbrev pub with_value : (ℕ → Bool) → ℕ → Bool → ℕ → Bool
 with_value a v b w = if w == v then b else a w
+
+-- the assignment that a row of marks stands for: a variable beyond its end is no
+abbrev pub assignment_of : List Bool → ℕ → Bool
+assignment_of marks v = slice_index_or marks v false
 
 -- the number is that of a constant or of a node
 abbrev pub IsThere : (ℕ → Option Row) → ℕ → Type 0

@@ -9,4 +9,4 @@ mod store;
 pub use handle::Handle;
 pub use refusal::{AddRefusal, OutOfMemory, Refusal};
 pub use row::{NodeNo, Row, Var};
-pub use store::Store;
+pub use store::{MAX_VARIABLES, Store};

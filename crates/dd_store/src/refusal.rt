@@ -1,8 +1,9 @@
 //! What the calls of a store answer where they refuse.
-ghost use Rattle.dd_store.specs.declared.refusal.Refusal.TheVariants.{OutOfMemory as refused_memory};
+ghost use Rattle.dd_store.specs.declared.refusal.Refusal.TheVariants.{OutOfMemory as node_memory};
+ghost use Rattle.dd_store.specs.declared.refusal.AddRefusal.TheVariants.{OutOfMemory as add_memory};
 ghost use Rattle.std.specs.Prelude.{◌≡◌};
 
-use std::alloc::AllocError;
+use std::alloc::{AllocError, AllocFailed};
 
 /// Memory is wanting. It is the only answer that has no cause in a contract.
 pub type OutOfMemory = AllocError;
@@ -17,9 +18,17 @@ pub enum Refusal {
 }
 
 impl From<AllocError> for Refusal {
-    ghost from_gives = { λ _ refusal. refusal ≡ refused_memory };
+    ghost from_gives = { λ _ refusal. refusal ≡ node_memory };
 
     fn from(_error: AllocError) -> Refusal {
+        Refusal::OutOfMemory
+    }
+}
+
+impl<T: Drop> From<AllocFailed<T>> for Refusal {
+    ghost from_gives = { λ _ refusal. refusal ≡ node_memory };
+
+    fn from(_error: AllocFailed<T>) -> Refusal {
         Refusal::OutOfMemory
     }
 }
@@ -27,8 +36,16 @@ impl From<AllocError> for Refusal {
 /// Why a variable isn't added.
 #[derive(Clone, Copy, Debug, PartialEq, Eq)]
 pub enum AddRefusal {
-    /// There are 4,096 variables.
+    /// There are as many variables as a table may have, `MAX_VARIABLES`.
     TooManyVariables,
     /// Memory is wanting.
     OutOfMemory,
+}
+
+impl<T: Drop> From<AllocFailed<T>> for AddRefusal {
+    ghost from_gives = { λ _ refusal. refusal ≡ add_memory };
+
+    fn from(_error: AllocFailed<T>) -> AddRefusal {
+        AddRefusal::OutOfMemory
+    }
 }

@@ -1,11 +1,16 @@
-//! The store: one table of diagrams under a budget.
-ghost use Rattle.std.specs.Prelude.{◌≡◌, ◌≤◌, IfOk};
+//! The store: one table of diagrams under a budget, its live handles and its look-up of nodes.
+ghost use Rattle.std.specs.Prelude.{◌≡◌, ℕ, ◌≤◌, ◌<◌, [], length, IfOk};
+
+mod handles;
 
 use crate::refusal::OutOfMemory;
 use crate::row::{NodeNo, Row, Var};
 use indexmap::IndexMap;
 use std::alloc::Global;
 use std::marker::Model;
+
+/// How many variables a table may have.
+pub const MAX_VARIABLES: u32 = 4096;
 
 /// A table of reduced ordered binary decision diagrams (Bryant 1986), with the order of its variables, the live handles and
 /// a budget of nodes. Contracts see it as a `Table` of `specs/Table.antt`.
@@ -29,17 +34,70 @@ pub struct Store {
 
 impl Model for Store {
     ghost use Rattle.dd_store.specs.Table.{Table};
+    ghost use Rattle.dd_store.specs.Kept.{IsKept, same_row};
+    ghost use Rattle.indexmap.specs.IndexMap.{get};
 
     ghost Value = { Table };
 
     ghost view = { λ s. record { slots = s.slots.items; order = s.order.items; counts = s.counts.items; budget = s.budget } };
+
+    ghost invariant = { λ s. IsKept (record { slots = s.slots.items; order = s.order.items; counts = s.counts.items; budget = s.budget }) (get same_row s.numbers) s.live s.nodes };
 }
 
 impl Store {
+    ghost use Rattle.dd_store.specs.Table.{IsSound, row_of, node_count, handle_count, handles_on};
+
+    /// An empty table: no variable, no node and no live handle. `budget` is the number of nodes that it may hold, for good.
+    pub fn new(alloc: Global, budget: u32) -> Result<Store, OutOfMemory>
+        requires least { 16 ≤ budget }
+        requires largest { budget ≤ 16777216 }
+        ensures variables { IfOk result (λ store. store.order ≡ []) }
+        ensures nodes { IfOk result (λ store. node_count store ≡ 0) }
+        ensures handles { IfOk result (λ store. (n : ℕ) → handles_on store n ≡ 0) }
+        ensures budget { IfOk result (λ store. store.budget ≡ budget) }
+        ensures sound { IfOk result IsSound }
+    {
+        let slots = Vec::from_slice(alloc, &[None, None])?;
+        let counts = Vec::from_slice(alloc, &[0, 0])?;
+        Ok(Store {
+            slots,
+            numbers: IndexMap::new(alloc),
+            counts,
+            live: 0,
+            nodes: 0,
+            order: Vec::new(alloc),
+            budget,
+        })
+    }
+
+    /// How many nodes the table holds, without the two constants.
+    pub fn nodes(&self) -> u32
+        ensures count { result ≡ node_count self.now }
+        ensures sound { IsSound self.now }
+    {
+        self.nodes
+    }
+
     /// How many nodes the table may hold.
     pub fn budget(&self) -> u32
         ensures { result ≡ self.now.budget }
     {
         self.budget
+    }
+
+    /// How many variables there are.
+    pub fn variables(&self) -> u32
+        ensures count { result ≡ length self.now.order }
+        ensures sound { IsSound self.now }
+    {
+        self.order.len() as u32
+    }
+
+    /// The variables, from the top down.
+    pub fn order(&self) -> &[Var]
+        ensures order { result.now ≡ self.now.order }
+        ensures sound { IsSound self.now }
+    {
+        &self.order
     }
 }
