@@ -1,3 +1,4 @@
 pub mod FollowLemmas
 pub mod Canonical
 pub mod HandleLemmas
+pub mod ReadLemmas

@@ -1,5 +1,5 @@
 -- A table of diagrams as contracts see it, and what is always true of it.
-use Rattle.std.specs.Prelude.{◌≡◌, ◌≢◌, ℕ, suc, ◌+◌, ◌<◌, ◌≤◌, ◌^◌, Bool, List, [], ◌∷◌, length, sum, slice_index, slice_index_or, Option, Some, None}
+use Rattle.std.specs.Prelude.{◌≡◌, ◌≢◌, ℕ, suc, ◌+◌, ◌<◌, ◌≤◌, ◌^◌, Bool, List, [], ◌∷◌, length, sum, slice_index, slice_index_or, if◌then◌else◌, Option, Some, None}
 use Rattle.dd_store.specs.declared.row.Row.{Row}
 use Rattle.dd_store.specs.declared.row.Var.{Var}
 use Rattle.dd_store.specs.Order.{level_in, level_of_row, IsIn, IsDistinct}
@@ -57,6 +57,21 @@ value_of t n a = value_in t.order (row_of t) a n
 -- two nodes have the same value for every assignment
 abbrev pub HaveSameValues : Table → ℕ → ℕ → Type 0
 HaveSameValues t m n = (a : ℕ → Bool) → value_of t m a ≡ value_of t n a
+
+-- the variable stands above the node
+abbrev pub IsAbove : Table → ℕ → ℕ → Type 0
+IsAbove t v n = level_of t v < top_of t n
+
+-- the node n tests the variable v, and its ends for no and yes are these
+pub record HasEnds (t : Table) (n v low high : ℕ) : Type 0 where
+  pub row : row_of t n ≡ Some (record { var = record { 0 = v }; low = record { 0 = low }; high = record { 0 = high } })
+  pub value : (a : ℕ → Bool) → value_of t n a ≡ (if a v then value_of t high a else value_of t low a)
+  pub variable : IsVariable t v
+  pub low_there : IsThere (row_of t) low
+  pub high_there : IsThere (row_of t) high
+  pub above_low : IsAbove t v low
+  pub above_high : IsAbove t v high
+  pub differ : low ≢ high
 
 -- rows over an order are reduced and ordered (Bryant 1986)
 pub record AreReduced (order : List Var) (rows : ℕ → Option Row) : Type 0 where

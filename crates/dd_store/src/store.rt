@@ -2,6 +2,7 @@
 ghost use Rattle.std.specs.Prelude.{◌≡◌, ℕ, ◌≤◌, ◌<◌, [], length, IfOk};
 
 mod handles;
+mod read;
 
 use crate::refusal::OutOfMemory;
 use crate::row::{NodeNo, Row, Var};
