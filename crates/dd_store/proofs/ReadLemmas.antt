@@ -38,7 +38,7 @@ none-constant t n sound small =
     ]
 
 -- a level is at most the number of variables
-level_in-≤ : (order : List Var) (v : ℕ) → level_in order v ≤ length order
+pub level_in-≤ : (order : List Var) (v : ℕ) → level_in order v ≤ length order
 level_in-≤ [] v = omega arith
 level_in-≤ (w ∷ ws) v = by (w.0 == v) (level_in-≤ ws v)
   where

@@ -1,5 +1,5 @@
 -- How a call changes a table, and why it refuses.
-use Rattle.std.specs.Prelude.{◌≡◌, ◌≢◌, ℕ, ◌+◌, Bool, Option, Some, None}
+use Rattle.std.specs.Prelude.{◌≡◌, ◌≢◌, ℕ, ◌+◌, ◌≤◌, Bool, Option, Some, None}
 use Rattle.dd_store.specs.declared.row.Row.{Row}
 use Rattle.dd_store.specs.declared.refusal.Refusal.{Refusal}
 use Rattle.dd_store.specs.declared.refusal.Refusal.TheVariants.{OverBudget, OutOfMemory}
@@ -29,6 +29,22 @@ KeepsValues old new = (n : ℕ) (a : ℕ → Bool) → IsLive old n → IsLive n
 pub record KeepsNodes (old new : Table) : Type 0 where
   pub rows : (n : ℕ) → row_of new n ≡ row_of old n
   pub count : node_count new ≡ node_count old
+  pub order : new.order ≡ old.order
+  pub budget : new.budget ≡ old.budget
+
+-- the nodes and the budget are those before
+pub record KeepsRowsAndBudget (old new : Table) : Type 0 where
+  pub rows : (n : ℕ) → row_of new n ≡ row_of old n
+  pub count : node_count new ≡ node_count old
+  pub budget : new.budget ≡ old.budget
+
+-- the nodes are those before with one more, n, which has this row
+pub record AddsRow (old new : Table) (n : ℕ) (r : Row) : Type 0 where
+  pub free : row_of old n ≡ None
+  pub no_constant : 2 ≤ n
+  pub added : row_of new n ≡ Some r
+  pub others : (m : ℕ) → m ≢ n → row_of new m ≡ row_of old m
+  pub count : node_count new ≡ node_count old + 1
   pub order : new.order ≡ old.order
   pub budget : new.budget ≡ old.budget
 

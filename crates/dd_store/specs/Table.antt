@@ -62,9 +62,13 @@ HaveSameValues t m n = (a : ℕ → Bool) → value_of t m a ≡ value_of t n a
 abbrev pub IsAbove : Table → ℕ → ℕ → Type 0
 IsAbove t v n = level_of t v < top_of t n
 
+-- the row of a node that tests v and has these ends
+abbrev pub row_with : ℕ → ℕ → ℕ → Row
+row_with v low high = record { var = record { 0 = v }; low = record { 0 = low }; high = record { 0 = high } }
+
 -- the node n tests the variable v, and its ends for no and yes are these
 pub record HasEnds (t : Table) (n v low high : ℕ) : Type 0 where
-  pub row : row_of t n ≡ Some (record { var = record { 0 = v }; low = record { 0 = low }; high = record { 0 = high } })
+  pub row : row_of t n ≡ Some (row_with v low high)
   pub value : (a : ℕ → Bool) → value_of t n a ≡ (if a v then value_of t high a else value_of t low a)
   pub variable : IsVariable t v
   pub low_there : IsThere (row_of t) low

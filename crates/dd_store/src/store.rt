@@ -1,17 +1,17 @@
 //! The store: one table of diagrams under a budget, its live handles and its look-up of nodes.
-ghost use Rattle.std.specs.Prelude.{◌≡◌, ℕ, ◌≤◌, ◌<◌, [], length, IfOk};
+ghost use Rattle.std.specs.Prelude.{◌≡◌, ℕ, ◌≤◌, ◌<◌, [], IfOk};
 
 mod handles;
+mod node;
 mod read;
+mod variables;
 
 use crate::refusal::OutOfMemory;
 use crate::row::{NodeNo, Row, Var};
 use indexmap::IndexMap;
 use std::alloc::Global;
 use std::marker::Model;
-
-/// How many variables a table may have.
-pub const MAX_VARIABLES: u32 = 4096;
+pub use variables::MAX_VARIABLES;
 
 /// A table of reduced ordered binary decision diagrams (Bryant 1986), with the order of its variables, the live handles and
 /// a budget of nodes. Contracts see it as a `Table` of `specs/Table.antt`.
@@ -84,21 +84,5 @@ impl Store {
         ensures { result ≡ self.now.budget }
     {
         self.budget
-    }
-
-    /// How many variables there are.
-    pub fn variables(&self) -> u32
-        ensures count { result ≡ length self.now.order }
-        ensures sound { IsSound self.now }
-    {
-        self.order.len() as u32
-    }
-
-    /// The variables, from the top down.
-    pub fn order(&self) -> &[Var]
-        ensures order { result.now ≡ self.now.order }
-        ensures sound { IsSound self.now }
-    {
-        &self.order
     }
 }

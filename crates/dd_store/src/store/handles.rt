@@ -53,7 +53,7 @@ impl Store {
     }
 
     /// A handle on this constant or node.
-    fn hold(&mut self, node: NodeNo) -> Result<Handle, OutOfMemory>
+    pub(crate) fn hold(&mut self, node: NodeNo) -> Result<Handle, OutOfMemory>
         requires { IsThere (row_of self.old) node.0 }
         ensures place { IfOk result (λ h. h ≡ node.0) }
         ensures value { IfOk result (λ h. (a : ℕ → Bool) → value_of self.new h a ≡ value_of self.old node.0 a) }

@@ -1,0 +1,51 @@
+//! The variables and their order.
+ghost use Rattle.std.specs.Prelude.{◌≡◌, ℕ, ◌<◌, [], ◌∷◌, ◌++◌, Bool, length, IfOk, OnErr, OnOk, ◌↔◌};
+
+use crate::refusal::AddRefusal;
+use crate::row::Var;
+use crate::store::Store;
+
+/// How many variables a table may have.
+pub const MAX_VARIABLES: u32 = 4096;
+
+impl Store {
+    ghost use Rattle.dd_store.specs.Table.{IsSound, value_of};
+    ghost use Rattle.dd_store.specs.Changes.{KeepsHandles, KeepsRowsAndBudget};
+
+    /// Adds a variable, which stands last in the order. Its number is the number of variables before it.
+    pub fn add_variable(&mut self) -> Result<Var, AddRefusal>
+        ensures number { IfOk result (λ v. v.0 ≡ length self.old.order) }
+        ensures last { IfOk result (λ v. self.new.order ≡ self.old.order ++ v ∷ []) }
+        ensures too_many { (result ≡ Err AddRefusal.TooManyVariables) ↔ (length self.old.order ≡ 4096) }
+        ensures refused { OnErr result (self.new.order ≡ self.old.order) }
+        ensures handles { KeepsHandles self.old self.new }
+        ensures nodes { KeepsRowsAndBudget self.old self.new }
+        ensures values { (n : ℕ) (a : ℕ → Bool) → value_of self.new n a ≡ value_of self.old n a }
+        ensures sound { IsSound self.new }
+    {
+        let _whole = &self.slots;
+        let count = self.order.len() as u32;
+        if count == MAX_VARIABLES {
+            return Err(AddRefusal::TooManyVariables);
+        }
+        let var = Var(count);
+        self.order.push(var)?;
+        Ok(var)
+    }
+
+    /// How many variables there are.
+    pub fn variables(&self) -> u32
+        ensures count { result ≡ length self.now.order }
+        ensures sound { IsSound self.now }
+    {
+        self.order.len() as u32
+    }
+
+    /// The variables, from the top down.
+    pub fn order(&self) -> &[Var]
+        ensures order { result.now ≡ self.now.order }
+        ensures sound { IsSound self.now }
+    {
+        &self.order
+    }
+}
