@@ -4,3 +4,4 @@ pub mod HandleLemmas
 pub mod ReadLemmas
 pub mod OrderLemmas
 pub mod AddLemmas
+pub mod Computed

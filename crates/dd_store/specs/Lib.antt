@@ -4,3 +4,4 @@ pub mod Table
 pub mod Changes
 pub mod Kept
 pub mod Law
+pub mod Size
