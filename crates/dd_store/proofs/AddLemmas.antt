@@ -10,7 +10,7 @@ use Rattle.dd_store.specs.declared.row.NodeNo.{NodeNo}
 use Rattle.dd_store.specs.Order.{level_in, level_of_row, IsIn}
 use Rattle.dd_store.specs.Follow.{end_of, follow, value_in, IsThere}
 use Rattle.dd_store.specs.Table.{Table, row_of, rows_in, node_count, handles_on, handle_count, value_of, IsVariable, IsAbove, IsLive, HasEnds, AreReduced, IsReduced, IsSound}
-use Rattle.dd_store.specs.Kept.{IsKept, same_row}
+use Rattle.dd_store.specs.Kept.{Index, IsKept, same_row}
 use Rattle.dd_store.specs.Changes.{AddsRow, GainsHandle, KeepsValues}
 use Rattle.dd_store.proofs.ReadLemmas.{has-ends}
 use Rattle.dd_store.proofs.FollowLemmas.{follow-node, follow-same}
@@ -142,23 +142,23 @@ get_or-push_other xs x d n other =
     ]
 
 -- the slots after a push have one row more
-pub adds-slot : (t : Table) (find : Row → Option NodeNo) (live nodes : ℕ) (r : Row) → IsKept t find live nodes
-    → Adds (row_of t) (row_of (with_node t r)) (nodes + 2) r
-adds-slot t find live nodes r kept =
+pub adds-slot : (t : Table) (i : Index) (r : Row) → IsKept t i
+    → Adds (row_of t) (row_of (with_node t r)) (i.nodes + 2) r
+adds-slot t i r kept =
     let filled = kept.filled in
     record {
-      free = get_or_past t.slots (nodes + 2) None (omega arith);
+      free = get_or_past t.slots (i.nodes + 2) None (omega arith);
       no_constant = omega arith;
       added = ap (λ k. get_or (t.slots ++ Some r ∷ []) k None) (sym filled) ∙ get_or-append_seam t.slots (Some r) [] None;
       others = λ n other. get_or-push_other t.slots (Some r) None n (λ same. other (same ∙ filled));
     }
 
 -- the handle on the new node is the only new one
-pub gains-slot : (t : Table) (find : Row → Option NodeNo) (live nodes : ℕ) (r : Row) → IsKept t find live nodes → GainsHandle t (with_node t r) (nodes + 2)
-gains-slot t find live nodes r kept =
-    let at : nodes + 2 ≡ length t.counts = sym (kept.counted ∙ kept.filled) in
-    let before : get_or t.counts (nodes + 2) 0 ≡ 0 = get_or_past t.counts (nodes + 2) 0 (omega arith) in
-    let after : get_or (t.counts ++ 1 ∷ []) (nodes + 2) 0 ≡ 1 = ap (λ k. get_or (t.counts ++ 1 ∷ []) k 0) at ∙ get_or-append_seam t.counts 1 [] 0 in
+pub gains-slot : (t : Table) (i : Index) (r : Row) → IsKept t i → GainsHandle t (with_node t r) (i.nodes + 2)
+gains-slot t i r kept =
+    let at : i.nodes + 2 ≡ length t.counts = sym (kept.counted ∙ kept.filled) in
+    let before : get_or t.counts (i.nodes + 2) 0 ≡ 0 = get_or_past t.counts (i.nodes + 2) 0 (omega arith) in
+    let after : get_or (t.counts ++ 1 ∷ []) (i.nodes + 2) 0 ≡ 1 = ap (λ k. get_or (t.counts ++ 1 ∷ []) k 0) at ∙ get_or-append_seam t.counts 1 [] 0 in
     let total' : sum (t.counts ++ 1 ∷ []) ≡ sum t.counts + 1 = sum_by-append (λ x. x) t.counts (1 ∷ []) in
     record {
       gained = omega arith;
@@ -167,9 +167,9 @@ gains-slot t find live nodes r kept =
     }
 
 -- the table is as sound
-pub sound-with_node : (t : Table) (find : Row → Option NodeNo) (live nodes : ℕ) (r : Row) → IsKept t find live nodes → CanTake t.order (row_of t) r
-    → nodes ≢ t.budget → IsSound (with_node t r)
-sound-with_node t find live nodes r kept can room = record {
+pub sound-with_node : (t : Table) (i : Index) (r : Row) → IsKept t i → CanTake t.order (row_of t) r
+    → i.nodes ≢ t.budget → IsSound (with_node t r)
+sound-with_node t i r kept can room = record {
   reduced = record { rows = reduced-add t.order _ _ _ r kept.sound.reduced.rows can adds; live = live' };
   numbered = kept.sound.numbered;
   has_numbers = kept.sound.has_numbers;
@@ -179,74 +179,76 @@ sound-with_node t find live nodes r kept can room = record {
   largest_budget = kept.sound.largest_budget;
 }
   where
-    adds : Adds (row_of t) (row_of (with_node t r)) (nodes + 2) r
-    adds = adds-slot t find live nodes r kept
+    adds : Adds (row_of t) (row_of (with_node t r)) (i.nodes + 2) r
+    adds = adds-slot t i r kept
 
     live' : (n : ℕ) → IsLive (with_node t r) n → IsThere (row_of (with_node t r)) n
-    live' n is_live = elim (cases_eq n (nodes + 2)) [
+    live' n is_live = elim (cases_eq n (i.nodes + 2)) [
       | inl same ↦ λ large. ap is_some (ap (row_of (with_node t r)) same ∙ adds.added)
       | inr other ↦
-          let before : handles_on (with_node t r) n ≡ handles_on t n = (gains-slot t find live nodes r kept).others n other in
+          let before : handles_on (with_node t r) n ≡ handles_on t n = (gains-slot t i r kept).others n other in
           there-still _ _ _ r adds n (kept.sound.reduced.live n (omega arith))
     ]
 
 -- and its fields are tied to it
-pub kept-with_node : (t : Table) (find find' : Row → Option NodeNo) (live nodes : ℕ) (r : Row) → IsKept t find live nodes → CanTake t.order (row_of t) r
-    → nodes ≢ t.budget → IsFindAfter find r (nodes + 2) find' → IsKept (with_node t r) find' (live + 1) (nodes + 1)
-kept-with_node t find find' live nodes r kept can room after = record {
-  sound = sound-with_node t find live nodes r kept can room;
+pub kept-with_node : (t : Table) (i : Index) (find' : Row → Option NodeNo) (r : Row) → IsKept t i → CanTake t.order (row_of t) r
+    → i.nodes ≢ t.budget → IsFindAfter i.find r (i.nodes + 2) find' → IsKept (with_node t r) (record { find = find'; live = i.live + 1; nodes = i.nodes + 1; levels = i.levels })
+kept-with_node t i find' r kept can room after = record {
+  sound = sound-with_node t i r kept can room;
   finds = finds';
   found = found';
   filled = let filled = kept.filled in length-append t.slots (Some r ∷ []) ∙ omega arith;
   counted = let counted = kept.counted in length-append t.counts (1 ∷ []) ∙ ap (λ k. k + 1) counted ∙ sym (length-append t.slots (Some r ∷ []));
-  live_is = (gains-slot t find live nodes r kept).total ∙ ap (λ k. k + 1) kept.live_is;
+  live_is = (gains-slot t i r kept).total ∙ ap (λ k. k + 1) kept.live_is;
   nodes_is = rows_in-push t.slots r ∙ ap (λ k. k + 1) kept.nodes_is;
+  leveled = kept.leveled;
+  level_is = kept.level_is;
 }
   where
-    adds : Adds (row_of t) (row_of (with_node t r)) (nodes + 2) r
-    adds = adds-slot t find live nodes r kept
+    adds : Adds (row_of t) (row_of (with_node t r)) (i.nodes + 2) r
+    adds = adds-slot t i r kept
 
     finds' : (q : Row) (k : NodeNo) → row_of (with_node t r) k.0 ≡ Some q → find' q ≡ Some k
     finds' q k is = after q ∙ elim (row-cases _ _ _ r adds k.0 q is) [
       | inl new' ↦
           let yes' : same_row r q ≡ true = rw new'.1 (same_row-refl r) in
-          let number : k ≡ record { 0 = nodes + 2 } = λ j. record { 0 = new'.0 j } in
+          let number : k ≡ record { 0 = i.nodes + 2 } = λ j. record { 0 = new'.0 j } in
           rw yes' (ap Some (sym number))
       | inr old' ↦ by (same_row r q) refl old'.1
     ]
       where
-        by : (b : Bool) → same_row r q ≡ b → row_of t k.0 ≡ Some q → cond b (Some (record { 0 = nodes + 2 })) (find q) ≡ Some k
+        by : (b : Bool) → same_row r q ≡ b → row_of t k.0 ≡ Some q → cond b (Some (record { 0 = i.nodes + 2 })) (i.find q) ≡ Some k
         by true e old' = absurd (can.absent k.0 (old' ∙ ap Some (sym (same_row-true r q e))))
         by false e old' = kept.finds q k old'
 
     found' : (q : Row) (k : NodeNo) → find' q ≡ Some k → row_of (with_node t r) k.0 ≡ Some q
     found' q k is = by (same_row r q) refl (sym (after q) ∙ is)
       where
-        by : (b : Bool) → same_row r q ≡ b → cond b (Some (record { 0 = nodes + 2 })) (find q) ≡ Some k → row_of (with_node t r) k.0 ≡ Some q
+        by : (b : Bool) → same_row r q ≡ b → cond b (Some (record { 0 = i.nodes + 2 })) (i.find q) ≡ Some k → row_of (with_node t r) k.0 ≡ Some q
         by true e is' =
-            let number : nodes + 2 ≡ k.0 = cc in
+            let number : i.nodes + 2 ≡ k.0 = cc in
             ap (row_of (with_node t r)) (sym number) ∙ adds.added ∙ ap Some (same_row-true r q e)
         by false e is' =
             let old' : row_of t k.0 ≡ Some q = kept.found q k is' in
-            let other : k.0 ≢ nodes + 2 = λ same. true≢false (sym (ap is_some (sym (ap (row_of t) same ∙ adds.free) ∙ old'))) in
+            let other : k.0 ≢ i.nodes + 2 = λ same. true≢false (sym (ap is_some (sym (ap (row_of t) same ∙ adds.free) ∙ old'))) in
             adds.others k.0 other ∙ old'
 
 -- what the look-up finds is the node of the row
-pub find-found : (t : Table) (find : Row → Option NodeNo) (live nodes : ℕ) (r : Row) (o : Option NodeNo) → IsKept t find live nodes → o ≡ find r
+pub find-found : (t : Table) (i : Index) (r : Row) (o : Option NodeNo) → IsKept t i → o ≡ i.find r
     → IfSome o (λ k. HasEnds t k.0 r.var.0 r.low.0 r.high.0)
-find-found t find live nodes r None kept is = tt
-find-found t find live nodes r (Some k) kept is = has-ends t k.0 r kept.sound (kept.found r k (sym is))
+find-found t i r None kept is = tt
+find-found t i r (Some k) kept is = has-ends t k.0 r kept.sound (kept.found r k (sym is))
 
 -- and where it finds none there is no such node
-pub find-absent : (t : Table) (find : Row → Option NodeNo) (live nodes : ℕ) (r : Row) (o : Option NodeNo) → IsKept t find live nodes → o ≡ find r
+pub find-absent : (t : Table) (i : Index) (r : Row) (o : Option NodeNo) → IsKept t i → o ≡ i.find r
     → IfNone o ((n : ℕ) → row_of t n ≢ Some r)
-find-absent t find live nodes r None kept is = λ n there. true≢false (sym (ap is_some (is ∙ kept.finds r (record { 0 = n }) there)))
-find-absent t find live nodes r (Some k) kept is = tt
+find-absent t i r None kept is = λ n there. true≢false (sym (ap is_some (is ∙ kept.finds r (record { 0 = n }) there)))
+find-absent t i r (Some k) kept is = tt
 
 -- the table with the node has it and is otherwise as before
-pub adds-row : (t : Table) (find : Row → Option NodeNo) (live nodes : ℕ) (r : Row) → IsKept t find live nodes → AddsRow t (with_node t r) (nodes + 2) r
-adds-row t find live nodes r kept =
-    let adds = adds-slot t find live nodes r kept in
+pub adds-row : (t : Table) (i : Index) (r : Row) → IsKept t i → AddsRow t (with_node t r) (i.nodes + 2) r
+adds-row t i r kept =
+    let adds = adds-slot t i r kept in
     record {
       free = adds.free;
       no_constant = adds.no_constant;
@@ -258,12 +260,12 @@ adds-row t find live nodes r kept =
     }
 
 -- the live handles keep their values
-pub keeps-values : (t : Table) (find : Row → Option NodeNo) (live nodes : ℕ) (r : Row) → IsKept t find live nodes → KeepsValues t (with_node t r)
-keeps-values t find live nodes r kept n a live_n _ =
-    value-add t.order (row_of t) (row_of (with_node t r)) (nodes + 2) r kept.sound.reduced.rows (adds-slot t find live nodes r kept) a n (kept.sound.reduced.live n live_n)
+pub keeps-values : (t : Table) (i : Index) (r : Row) → IsKept t i → KeepsValues t (with_node t r)
+keeps-values t i r kept n a live_n _ =
+    value-add t.order (row_of t) (row_of (with_node t r)) (i.nodes + 2) r kept.sound.reduced.rows (adds-slot t i r kept) a n (kept.sound.reduced.live n live_n)
 
 -- the new node has the value that was asked for
-pub value_of-with_node : (t : Table) (find : Row → Option NodeNo) (live nodes : ℕ) (r : Row) → IsKept t find live nodes → CanTake t.order (row_of t) r
-    → (a : ℕ → Bool) → value_of (with_node t r) (nodes + 2) a ≡ (if a r.var.0 then value_of t r.high.0 a else value_of t r.low.0 a)
-value_of-with_node t find live nodes r kept can a =
-    value-new t.order (row_of t) (row_of (with_node t r)) (nodes + 2) r kept.sound.reduced.rows can (adds-slot t find live nodes r kept) a
+pub value_of-with_node : (t : Table) (i : Index) (r : Row) → IsKept t i → CanTake t.order (row_of t) r
+    → (a : ℕ → Bool) → value_of (with_node t r) (i.nodes + 2) a ≡ (if a r.var.0 then value_of t r.high.0 a else value_of t r.low.0 a)
+value_of-with_node t i r kept can a =
+    value-new t.order (row_of t) (row_of (with_node t r)) (i.nodes + 2) r kept.sound.reduced.rows can (adds-slot t i r kept) a

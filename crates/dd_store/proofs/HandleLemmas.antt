@@ -10,7 +10,7 @@ use Rattle.dd_store.specs.declared.row.Row.{Row}
 use Rattle.dd_store.specs.declared.row.NodeNo.{NodeNo}
 use Rattle.dd_store.specs.Follow.{value_in, IsThere}
 use Rattle.dd_store.specs.Table.{Table, row_of, handles_on, IsLive, IsReduced, IsSound, value_of}
-use Rattle.dd_store.specs.Kept.{IsKept}
+use Rattle.dd_store.specs.Kept.{Index, IsKept}
 use Rattle.dd_store.specs.Changes.{GainsHandle, LosesHandle}
 use Rattle.dd_store.proofs.FollowLemmas.{follow-none}
 
@@ -32,8 +32,8 @@ live-within t n live =
     elim (cases_lt n (length t.counts)) [ inl inside ↦ inside | inr past ↦ absurd (let none = get_or_past t.counts n 0 past in omega arith) ]
 
 -- a constant or a node has a count
-pub there-within : (t : Table) (find : Row → Option NodeNo) (live nodes n : ℕ) → IsKept t find live nodes → IsThere (row_of t) n → n < length t.counts
-there-within t find live nodes n kept there =
+pub there-within : (t : Table) (i : Index) (n : ℕ) → IsKept t i → IsThere (row_of t) n → n < length t.counts
+there-within t i n kept there =
     elim (cases_lt n (length t.counts)) [
       | inl inside ↦ inside
       | inr past ↦
@@ -64,9 +64,9 @@ loses-handle t n x live read =
     record { lost = omega arith; others = λ m other. get_or-set_other t.counts n m _ 0 other; total = omega arith }
 
 -- the table is as sound with a count taken down
-pub release-kept : (t : Table) (find : Row → Option NodeNo) (live nodes n x : ℕ) → IsKept t find live nodes → IsLive t n
-    → x ≡ get_or t.counts n x → IsKept (with_count t n (x - 1)) find (live - 1) nodes
-release-kept t find live nodes n x kept is_live read = record {
+pub release-kept : (t : Table) (i : Index) (n x : ℕ) → IsKept t i → IsLive t n
+    → x ≡ get_or t.counts n x → IsKept (with_count t n (x - 1)) (record i { live = i.live - 1 })
+release-kept t i n x kept is_live read = record {
   sound = record {
     reduced = record { rows = kept.sound.reduced.rows; live = live' };
     numbered = kept.sound.numbered;
@@ -82,6 +82,8 @@ release-kept t find live nodes n x kept is_live read = record {
   counted = length-set t.counts n _ ∙ kept.counted;
   live_is = let loses = (loses-handle t n x is_live read).total in omega arith;
   nodes_is = kept.nodes_is;
+  leveled = kept.leveled;
+  level_is = kept.level_is;
 }
   where
     live' : (m : ℕ) → IsLive (with_count t n (x - 1)) m → IsThere (row_of t) m

@@ -1,13 +1,15 @@
 -- A variable that is added last: the levels above it, the values and the table stay as they are.
-use Rattle.std.proofs.Common.{◌≡◌, ◌≢◌, ◌⊎◌, ℕ, Bool, ◌==◌, ◌+◌, ◌<◌, ◌≤◌, suc, true, false, cond, List, [], ◌∷◌, ◌++◌, length, Option, Some, None, refl, ap, sym, ◌∙◌, subst, inl, inr, arith, length-append}
+use Rattle.std.proofs.Common.{◌≡◌, ◌≢◌, ◌⊎◌, ℕ, Bool, ◌==◌, ◌+◌, ◌<◌, ◌≤◌, suc, true, false, cond, List, [], ◌∷◌, ◌++◌, length, Option, Some, None, get_or, refl, ap, sym, ◌∙◌, subst, inl, inr, arith, length-append}
 use Rattle.std.proofs.lemmas.Bool.{cases_lt, cases_eq, eqb-true, eqb-false, eq-eqb, ne_eqb}
+use Rattle.std.proofs.lemmas.List.{get_or_append_left}
+use Rattle.std.proofs.Math.Seq.{get_or-append_seam}
 use Rattle.dd_store.specs.declared.row.Row.{Row}
 use Rattle.dd_store.specs.declared.row.Var.{Var}
 use Rattle.dd_store.specs.declared.row.NodeNo.{NodeNo}
 use Rattle.dd_store.specs.Order.{level_in, level_of_row, IsIn, IsDistinct}
 use Rattle.dd_store.specs.Follow.{end_of, step, follow, value_in}
 use Rattle.dd_store.specs.Table.{Table, row_of, value_of, AreReduced, IsReduced, IsSound}
-use Rattle.dd_store.specs.Kept.{IsKept}
+use Rattle.dd_store.specs.Kept.{Index, IsKept}
 use Rattle.dd_store.proofs.ReadLemmas.{level_in-≤}
 
 -- the variable is missing
@@ -159,9 +161,9 @@ sound-with_variable t v sound next room = record {
         rw is (simp length-append (omega arith))
 
 -- and the fields are tied to it as before
-pub kept-with_variable : (t : Table) (find : Row → Option NodeNo) (live nodes : ℕ) (v : Var) → IsKept t find live nodes → v.0 ≡ length t.order
-    → length t.order ≢ 4096 → IsKept (with_variable t v) find live nodes
-kept-with_variable t find live nodes v kept next room = record {
+pub kept-with_variable : (t : Table) (i : Index) (v : Var) → IsKept t i → v.0 ≡ length t.order
+    → length t.order ≢ 4096 → IsKept (with_variable t v) (record i { levels = i.levels ++ v.0 ∷ [] })
+kept-with_variable t i v kept next room = record {
   sound = sound-with_variable t v kept.sound next room;
   finds = kept.finds;
   found = kept.found;
@@ -169,4 +171,19 @@ kept-with_variable t find live nodes v kept next room = record {
   counted = kept.counted;
   live_is = kept.live_is;
   nodes_is = kept.nodes_is;
+  leveled = length-append i.levels (v.0 ∷ []) ∙ ap (λ k. k + 1) kept.leveled ∙ sym (length-append t.order (v ∷ []));
+  level_is = λ w small. level_is' w small (cases_lt w (length t.order));
 }
+  where
+    level_is' : (w : ℕ) → w < length (t.order ++ v ∷ []) → (w < length t.order) ⊎ (length t.order ≤ w)
+        → get_or (i.levels ++ v.0 ∷ []) w 0 ≡ level_in (t.order ++ v ∷ []) w
+    level_is' w small (inl before) =
+        let leveled = kept.leveled in
+        get_or_append_left i.levels (v.0 ∷ []) 0 w (omega arith) ∙ kept.level_is w before ∙ sym (level_in-push t.order v w (kept.sound.has_numbers w before))
+    level_is' w small (inr past) =
+        let small' = simp length-append at small in
+        let is : w ≡ length i.levels = let leveled = kept.leveled in omega arith in
+        let same : w ≡ v.0 = omega arith in
+        let last : get_or (i.levels ++ v.0 ∷ []) w 0 ≡ length t.order =
+        ap (λ k. get_or (i.levels ++ v.0 ∷ []) k 0) is ∙ get_or-append_seam i.levels v.0 [] 0 ∙ next in
+        last ∙ sym (ap (level_in (t.order ++ v ∷ [])) same ∙ level_in-last t.order v (absent-next t v kept.sound next))

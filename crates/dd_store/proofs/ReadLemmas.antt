@@ -8,7 +8,7 @@ use Rattle.dd_store.specs.declared.row.NodeNo.{NodeNo}
 use Rattle.dd_store.specs.Order.{level_in, level_of_row, IsIn}
 use Rattle.dd_store.specs.Follow.{end_of, value_in, IsThere}
 use Rattle.dd_store.specs.Table.{Table, row_of, value_of, top_of, level_of, IsLive, IsVariable, IsReduced, IsSound, HasEnds, HaveSameValues}
-use Rattle.dd_store.specs.Kept.{IsKept}
+use Rattle.dd_store.specs.Kept.{Index, IsKept}
 use Rattle.dd_store.proofs.FollowLemmas.{follow-none, follow-node}
 use Rattle.dd_store.proofs.Canonical.{canonical}
 
@@ -124,9 +124,9 @@ same-decided t m n r sound live_m live_n tested = (forth, back)
     back same = tested ∙ eq-eqb m n (same-place t m n sound live_m live_n same)
 
 -- a row that was read is that of the node
-pub row-read : (t : Table) (find : Row → Option NodeNo) (live nodes n : ℕ) (o : Option Row) → IsKept t find live nodes → IsThere (row_of t) n
+pub row-read : (t : Table) (i : Index) (n : ℕ) (o : Option Row) → IsKept t i → IsThere (row_of t) n
     → o ≡ get_or t.slots n o → row_of t n ≡ o
-row-read t find live nodes n o kept there read = get_or_default t.slots n None o (slot-within t n (omega arith) there) ∙ sym read
+row-read t i n o kept there read = get_or_default t.slots n None o (slot-within t n (omega arith) there) ∙ sym read
 
 -- a node's value isn't one for all assignments
 pub node-varies : (t : Table) (n : ℕ) (r : Row) (b : Bool) → IsSound t → IsLive t n → row_of t n ≡ Some r → ((a : ℕ → Bool) → value_of t n a ≡ b) → ⊥

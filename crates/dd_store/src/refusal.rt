@@ -49,3 +49,11 @@ impl<T: Drop> From<AllocFailed<T>> for AddRefusal {
         AddRefusal::OutOfMemory
     }
 }
+
+impl From<AllocError> for AddRefusal {
+    ghost from_gives = { λ _ refusal. refusal ≡ add_memory };
+
+    fn from(_error: AllocError) -> AddRefusal {
+        AddRefusal::OutOfMemory
+    }
+}

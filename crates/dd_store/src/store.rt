@@ -4,6 +4,7 @@ ghost use Rattle.std.specs.Prelude.{◌≡◌, ℕ, ◌≤◌, ◌<◌, [], IfOk
 mod handles;
 mod node;
 mod read;
+mod room;
 mod variables;
 
 use crate::refusal::OutOfMemory;
@@ -29,6 +30,8 @@ pub struct Store {
     nodes: u32,
     /// The variables, from the top down.
     order: Vec<Var>,
+    /// The level of each variable, by its number.
+    levels: Vec<u32>,
     /// How many nodes there may be.
     budget: u32,
 }
@@ -42,7 +45,7 @@ impl Model for Store {
 
     ghost view = { λ s. record { slots = s.slots.items; order = s.order.items; counts = s.counts.items; budget = s.budget } };
 
-    ghost invariant = { λ s. IsKept (record { slots = s.slots.items; order = s.order.items; counts = s.counts.items; budget = s.budget }) (get same_row s.numbers) s.live s.nodes };
+    ghost invariant = { λ s. IsKept (record { slots = s.slots.items; order = s.order.items; counts = s.counts.items; budget = s.budget }) (record { find = get same_row s.numbers; live = s.live; nodes = s.nodes; levels = s.levels.items }) };
 }
 
 impl Store {
@@ -67,6 +70,7 @@ impl Store {
             live: 0,
             nodes: 0,
             order: Vec::new(alloc),
+            levels: Vec::new(alloc),
             budget,
         })
     }

@@ -1,10 +1,11 @@
 //! Nodes: the one that has a row is found, or made where the budget leaves room.
-ghost use Rattle.std.specs.Prelude.{◌≡◌, ◌≢◌, ℕ, ◌+◌, ◌<◌, ◌≤◌, [], ◌∷◌, ◌++◌, vec_len, vec_capacity, Bool, if◌then◌else◌, Some, IfOk, OnOk, OnErr, IfErr, IfSome, IfNone};
+ghost use Rattle.std.specs.Prelude.{◌≡◌, ◌≢◌, ℕ, ◌+◌, ◌<◌, ◌≤◌, Bool, if◌then◌else◌, Some, IfOk, OnOk, OnErr, IfErr, IfSome, IfNone};
 
 use crate::handle::Handle;
 use crate::refusal::Refusal;
 use crate::row::{NodeNo, Row, Var};
 use crate::store::Store;
+use crate::store::room::push_within_capacity;
 
 impl Store {
     ghost use Rattle.dd_store.specs.Follow.{IsThere, end_of};
@@ -106,12 +107,4 @@ impl Store {
         self.live += 1;
         Ok(Handle { node })
     }
-}
-
-/// Puts an item last in a vector that has room for it.
-fn push_within_capacity<T: Drop>(items: &mut Vec<T>, item: T)
-    requires { vec_len items.old < vec_capacity items.old }
-    ensures { items.new.items ≡ items.old.items ++ item ∷ [] }
-{
-    let _room = items.push(item);
 }

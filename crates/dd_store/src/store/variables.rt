@@ -4,12 +4,13 @@ ghost use Rattle.std.specs.Prelude.{◌≡◌, ℕ, ◌<◌, [], ◌∷◌, ◌+
 use crate::refusal::AddRefusal;
 use crate::row::Var;
 use crate::store::Store;
+use crate::store::room::push_within_capacity;
 
 /// How many variables a table may have.
 pub const MAX_VARIABLES: u32 = 4096;
 
 impl Store {
-    ghost use Rattle.dd_store.specs.Table.{IsSound, value_of};
+    ghost use Rattle.dd_store.specs.Table.{IsSound, IsVariable, level_of, value_of};
     ghost use Rattle.dd_store.specs.Changes.{KeepsHandles, KeepsRowsAndBudget};
 
     /// Adds a variable, which stands last in the order. Its number is the number of variables before it.
@@ -29,8 +30,18 @@ impl Store {
             return Err(AddRefusal::TooManyVariables);
         }
         let var = Var(count);
-        self.order.push(var)?;
+        self.order.reserve(1)?;
+        self.levels.push(count)?;
+        push_within_capacity(&mut self.order, var);
         Ok(var)
+    }
+
+    /// The level of a variable: how many variables of the order stand above it.
+    pub fn level(&self, var: Var) -> u32
+        requires { IsVariable self.now var.0 }
+        ensures { result ≡ level_of self.now var.0 }
+    {
+        self.levels[var.0 as usize]
     }
 
     /// How many variables there are.

@@ -21,16 +21,16 @@ counts : (c : goal.After-self-2-1) → c.push_within_capacity-2.new.items.items 
 counts c = c.push_within_capacity-2.ensures ∙ ap (λ xs. xs ++ 1 ∷ []) c.reserve-2.ensures.items
 
 pub invariant_of-self-2 : goal.invariant_of-self-2
-invariant_of-self-2 c = rw (slots c, counts c) (kept-with_node _ _ _ _ _ c.args.row c.self.invariant (can c) c.if-self.false (λ q. c.in_ok-insert.ensures.updates.0 q))
+invariant_of-self-2 c = rw (slots c, counts c) (kept-with_node _ _ _ c.args.row c.self.invariant (can c) c.if-self.false (λ q. c.in_ok-insert.ensures.updates.0 q))
 
 pub returns-clause-sound : goal.returns-clause-sound
-returns-clause-sound c = rw (slots c, counts c) (sound-with_node _ _ _ _ c.args.row c.self.invariant (can c) c.if-self.false)
+returns-clause-sound c = rw (slots c, counts c) (sound-with_node _ _ c.args.row c.self.invariant (can c) c.if-self.false)
 
 pub returns-clause-added : goal.returns-clause-added
-returns-clause-added c = rw (slots c, counts c, ← c.self.view_is) (adds-row _ _ _ _ c.args.row c.self.invariant)
+returns-clause-added c = rw (slots c, counts c, ← c.self.view_is) (adds-row _ _ c.args.row c.self.invariant)
 
 pub returns-clause-values : goal.returns-clause-values
-returns-clause-values c = rw (slots c, counts c, ← c.self.view_is) (keeps-values _ _ _ _ c.args.row c.self.invariant)
+returns-clause-values c = rw (slots c, counts c, ← c.self.view_is) (keeps-values _ _ c.args.row c.self.invariant)
 
 pub returns-clause-value : goal.returns-clause-value
-returns-clause-value c = rw (slots c, counts c, ← c.self.view_is) (value_of-with_node _ _ _ _ c.args.row c.self.invariant (can c))
+returns-clause-value c = rw (slots c, counts c, ← c.self.view_is) (value_of-with_node _ _ c.args.row c.self.invariant (can c))

@@ -5,4 +5,4 @@ use Rattle.dd_store.proofs.store.Store.hold.Goals as goal
 pub returns-clause-gained : goal.returns-clause-gained
 returns-clause-gained c =
     let there = rw (← c.self.view_is) at c.requires in
-    rw (← c.self.view_is) (gains-handle _ _ _ (there-within _ _ _ _ _ c.self.invariant there) c.index_mut.ensures.value)
+    rw (← c.self.view_is) (gains-handle _ _ _ (there-within _ _ _ c.self.invariant there) c.index_mut.ensures.value)
