@@ -8,7 +8,7 @@ use Rattle.dd_store.specs.declared.row.Var.{Var}
 use Rattle.dd_store.specs.declared.row.NodeNo.{NodeNo}
 use Rattle.dd_store.specs.Order.{level_in, level_of_row, IsIn, IsDistinct}
 use Rattle.dd_store.specs.Follow.{end_of, step, follow, value_in}
-use Rattle.dd_store.specs.Table.{Table, row_of, value_of, AreReduced, IsReduced, IsSound}
+use Rattle.dd_store.specs.Table.{Table, row_of, value_of, IsVariable, IsAbove, AreReduced, IsReduced, IsSound}
 use Rattle.dd_store.specs.Kept.{Index, IsKept}
 use Rattle.dd_store.proofs.ReadLemmas.{level_in-≤}
 
@@ -17,7 +17,7 @@ abbrev IsAbsent : List Var → ℕ → Type 0
 IsAbsent vs w = level_in vs w ≡ length vs
 
 -- a variable that is there keeps its level
-level_in-push : (xs : List Var) (v : Var) (w : ℕ) → IsIn xs w → level_in (xs ++ v ∷ []) w ≡ level_in xs w
+pub level_in-push : (xs : List Var) (v : Var) (w : ℕ) → IsIn xs w → level_in (xs ++ v ∷ []) w ≡ level_in xs w
 level_in-push [] v w inside = absurd (omega arith)
 level_in-push (x ∷ xs) v w inside = by (x.0 == w) inside (level_in-push xs v w)
   where
@@ -187,3 +187,10 @@ kept-with_variable t i v kept next room = record {
         let last : get_or (i.levels ++ v.0 ∷ []) w 0 ≡ length t.order =
         ap (λ k. get_or (i.levels ++ v.0 ∷ []) k 0) is ∙ get_or-append_seam i.levels v.0 [] 0 ∙ next in
         last ∙ sym (ap (level_in (t.order ++ v ∷ [])) same ∙ level_in-last t.order v (absent-next t v kept.sound next))
+
+-- a variable of before stands above the nodes above which it stood
+pub above-with_variable : (t : Table) (v : Var) → IsSound t → (w n : ℕ) → IsVariable t w → IsAbove t w n → IsAbove (with_variable t v) w n
+above-with_variable t v sound w n inside above =
+    let level = level_in-push t.order v w inside in
+    let more = level_of_row-push t.order v (row_of t n) (sound.reduced.rows.tested n) in
+    omega arith

@@ -3,11 +3,12 @@ use Rattle.std.specs.Prelude.{◌≡◌, ◌≢◌, ℕ, ◌+◌, ◌≤◌, Boo
 use Rattle.dd_store.specs.declared.row.Row.{Row}
 use Rattle.dd_store.specs.declared.refusal.Refusal.{Refusal}
 use Rattle.dd_store.specs.declared.refusal.Refusal.TheVariants.{OverBudget, OutOfMemory}
-use Rattle.dd_store.specs.Table.{Table, row_of, node_count, handles_on, handle_count, value_of, IsLive}
+use Rattle.dd_store.specs.Table.{Table, row_of, node_count, handles_on, handle_count, value_of, top_of, IsLive}
 
 -- the live handles are those before
-abbrev pub KeepsHandles : Table → Table → Type 0
-KeepsHandles old new = (n : ℕ) → handles_on new n ≡ handles_on old n
+pub record KeepsHandles (old new : Table) : Type 0 where
+  pub each : (n : ℕ) → handles_on new n ≡ handles_on old n
+  pub total : handle_count new ≡ handle_count old
 
 -- the live handles are those before with one more, on the number n
 pub record GainsHandle (old new : Table) (n : ℕ) : Type 0 where
@@ -24,6 +25,10 @@ pub record LosesHandle (old new : Table) (n : ℕ) : Type 0 where
 -- each handle that is live before and after has the same value for every assignment
 abbrev pub KeepsValues : Table → Table → Type 0
 KeepsValues old new = (n : ℕ) (a : ℕ → Bool) → IsLive old n → IsLive new n → value_of new n a ≡ value_of old n a
+
+-- each live handle stands on the level on which it stood
+abbrev pub KeepsTops : Table → Table → Type 0
+KeepsTops old new = (n : ℕ) → IsLive old n → top_of new n ≡ top_of old n
 
 -- the nodes, the order and the budget are those before
 pub record KeepsNodes (old new : Table) : Type 0 where

@@ -58,6 +58,7 @@ impl Store {
         ensures variables { IfOk result (λ store. store.order ≡ []) }
         ensures nodes { IfOk result (λ store. node_count store ≡ 0) }
         ensures handles { IfOk result (λ store. (n : ℕ) → handles_on store n ≡ 0) }
+        ensures none_live { IfOk result (λ store. handle_count store ≡ 0) }
         ensures budget { IfOk result (λ store. store.budget ≡ budget) }
         ensures sound { IfOk result IsSound }
     {

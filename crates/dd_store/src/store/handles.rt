@@ -1,5 +1,5 @@
 //! Handles: making them on constants and nodes, copying them, and giving them back.
-ghost use Rattle.std.specs.Prelude.{◌≡◌, ℕ, ◌≤◌, ◌<◌, Bool, if◌then◌else◌, IfOk, OnOk, OnErr};
+ghost use Rattle.std.specs.Prelude.{◌≡◌, ℕ, ◌≤◌, ◌<◌, Bool, if◌then◌else◌, length, IfOk, OnOk, OnErr};
 ghost use Rattle.dd_store.specs.Follow.{IsThere};
 
 use crate::handle::Handle;
@@ -9,17 +9,19 @@ use crate::store::Store;
 use std::alloc::AllocError;
 
 impl Store {
-    ghost use Rattle.dd_store.specs.Table.{IsSound, IsLive, row_of, value_of};
-    ghost use Rattle.dd_store.specs.Changes.{KeepsHandles, GainsHandle, LosesHandle, KeepsNodes, KeepsValues};
+    ghost use Rattle.dd_store.specs.Table.{IsSound, IsLive, row_of, top_of, value_of};
+    ghost use Rattle.dd_store.specs.Changes.{KeepsHandles, GainsHandle, LosesHandle, KeepsNodes, KeepsValues, KeepsTops};
 
     /// A handle on a constant, which is no node: its value is `value` for every assignment.
     pub fn constant(&mut self, value: bool) -> Result<Handle, OutOfMemory>
         ensures value { IfOk result (λ h. (a : ℕ → Bool) → value_of self.new h a ≡ value) }
         ensures place { IfOk result (λ h. h ≡ (if value then 1 else 0)) }
+        ensures top { IfOk result (λ h. top_of self.new h ≡ length self.new.order) }
         ensures gained { IfOk result (GainsHandle self.old self.new) }
         ensures refused { OnErr result (KeepsHandles self.old self.new) }
         ensures nodes { KeepsNodes self.old self.new }
         ensures values { KeepsValues self.old self.new }
+        ensures tops { KeepsTops self.old self.new }
         ensures sound { IsSound self.new }
     {
         self.hold(NodeNo(u32::from(value)))
@@ -34,6 +36,7 @@ impl Store {
         ensures refused { OnErr result (KeepsHandles self.old self.new) }
         ensures nodes { KeepsNodes self.old self.new }
         ensures values { KeepsValues self.old self.new }
+        ensures tops { KeepsTops self.old self.new }
         ensures sound { IsSound self.new }
     {
         let _whole = &self.slots;
@@ -46,6 +49,7 @@ impl Store {
         ensures lost { LosesHandle self.old self.new handle }
         ensures nodes { KeepsNodes self.old self.new }
         ensures values { KeepsValues self.old self.new }
+        ensures tops { KeepsTops self.old self.new }
         ensures sound { IsSound self.new }
     {
         self.counts[handle.node.0 as usize] -= 1;
@@ -61,6 +65,7 @@ impl Store {
         ensures refused { OnErr result (KeepsHandles self.old self.new) }
         ensures nodes { KeepsNodes self.old self.new }
         ensures values { KeepsValues self.old self.new }
+        ensures tops { KeepsTops self.old self.new }
         ensures sound { IsSound self.new }
     {
         if self.live == u32::MAX {

@@ -10,7 +10,7 @@ use crate::store::room::push_within_capacity;
 impl Store {
     ghost use Rattle.dd_store.specs.Follow.{IsThere, end_of};
     ghost use Rattle.dd_store.specs.Table.{IsSound, IsLive, IsVariable, IsAbove, HasEnds, row_of, row_with, node_count, handle_count, level_of, top_of, value_of};
-    ghost use Rattle.dd_store.specs.Changes.{KeepsHandles, GainsHandle, KeepsNodes, KeepsRows, KeepsValues, AddsRow, IsFullFor, IsCauseFor};
+    ghost use Rattle.dd_store.specs.Changes.{KeepsHandles, GainsHandle, KeepsNodes, KeepsRows, KeepsValues, KeepsTops, AddsRow, IsFullFor, IsCauseFor};
 
     /// A handle whose value is that of `high` where `var` is true, and else that of `low`. It stands on the end that both
     /// have in common, on the node that is there already, or on a new node.
@@ -33,6 +33,7 @@ impl Store {
         ensures gained { IfOk result (GainsHandle self.old self.new) }
         ensures refused_handles { OnErr result (KeepsHandles self.old self.new) }
         ensures values { KeepsValues self.old self.new }
+        ensures tops { KeepsTops self.old self.new }
 
         // The nodes: those before, and at most the one that was asked for.
         ensures stay { KeepsRows self.old self.new }
@@ -83,6 +84,7 @@ impl Store {
         ensures gained { IfOk result (GainsHandle self.old self.new) }
         ensures refused_handles { OnErr result (KeepsHandles self.old self.new) }
         ensures values { KeepsValues self.old self.new }
+        ensures tops { KeepsTops self.old self.new }
         ensures refused_nodes { OnErr result (KeepsNodes self.old self.new) }
         ensures cause { IfErr result (IsCauseFor self.old row) }
         ensures over_budget { node_count self.old ≡ self.old.budget → result ≡ Err (Refusal.OverBudget self.old.budget (handle_count self.old)) }

@@ -10,7 +10,7 @@ use crate::store::room::push_within_capacity;
 pub const MAX_VARIABLES: u32 = 4096;
 
 impl Store {
-    ghost use Rattle.dd_store.specs.Table.{IsSound, IsVariable, level_of, value_of};
+    ghost use Rattle.dd_store.specs.Table.{IsSound, IsVariable, IsAbove, level_of, value_of};
     ghost use Rattle.dd_store.specs.Changes.{KeepsHandles, KeepsRowsAndBudget};
 
     /// Adds a variable, which stands last in the order. Its number is the number of variables before it.
@@ -19,6 +19,8 @@ impl Store {
         ensures last { IfOk result (λ v. self.new.order ≡ self.old.order ++ v ∷ []) }
         ensures too_many { (result ≡ Err AddRefusal.TooManyVariables) ↔ (length self.old.order ≡ 4096) }
         ensures refused { OnErr result (self.new.order ≡ self.old.order) }
+        ensures levels { (v : ℕ) → IsVariable self.old v → level_of self.new v ≡ level_of self.old v }
+        ensures above { (v n : ℕ) → IsVariable self.old v → IsAbove self.old v n → IsAbove self.new v n }
         ensures handles { KeepsHandles self.old self.new }
         ensures nodes { KeepsRowsAndBudget self.old self.new }
         ensures values { (n : ℕ) (a : ℕ → Bool) → value_of self.new n a ≡ value_of self.old n a }

@@ -1,6 +1,6 @@
 -- The variable stands last.
 use Rattle.std.proofs.Common.{rules, ◌≡◌, ◌≢◌, length, arith, ◌∙◌, [], ◌∷◌, ◌++◌, ap, sym}
-use Rattle.dd_store.proofs.OrderLemmas.{kept-with_variable, sound-with_variable, value_of-with_variable}
+use Rattle.dd_store.proofs.OrderLemmas.{kept-with_variable, sound-with_variable, value_of-with_variable, level_in-push, above-with_variable}
 use Rattle.dd_store.proofs.store.Store.add_variable.Goals as goal
 
 order : (c : goal.After-push_within_capacity) → c.push_within_capacity.new.items.items ≡ c.self.inside.order.items ++ record { 0 = c.len-count.result } ∷ []
@@ -22,3 +22,9 @@ returns-clause-sound c = rw (order c) (sound-with_variable _ (record { 0 = c.len
 pub returns-clause-values : goal.returns-clause-values
 returns-clause-values c = λ n a.
     rw (order c, ← c.self.view_is) (value_of-with_variable _ (record { 0 = c.len-count.result }) c.self.invariant.sound (next c) n a)
+
+pub returns-clause-levels : goal.returns-clause-levels
+returns-clause-levels c = rw (order c, ← c.self.view_is) (level_in-push c.self.inside.order.items (record { 0 = c.len-count.result }))
+
+pub returns-clause-above : goal.returns-clause-above
+returns-clause-above c = rw (order c, ← c.self.view_is) (above-with_variable _ (record { 0 = c.len-count.result }) c.self.invariant.sound)
