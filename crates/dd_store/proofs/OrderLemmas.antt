@@ -8,7 +8,7 @@ use Rattle.dd_store.specs.declared.row.Var.{Var}
 use Rattle.dd_store.specs.declared.row.NodeNo.{NodeNo}
 use Rattle.dd_store.specs.Order.{level_in, level_of_row, IsIn, IsDistinct}
 use Rattle.dd_store.specs.Follow.{end_of, step, follow, value_in}
-use Rattle.dd_store.specs.Table.{Table, row_of, value_of, IsVariable, IsAbove, AreReduced, IsReduced, IsSound}
+use Rattle.dd_store.specs.Table.{Table, row_of, value_of, level_of, IsVariable, IsAbove, AreReduced, IsReduced, IsSound}
 use Rattle.dd_store.specs.Kept.{Index, IsKept}
 use Rattle.dd_store.proofs.ReadLemmas.{level_in-≤}
 
@@ -194,3 +194,7 @@ above-with_variable t v sound w n inside above =
     let level = level_in-push t.order v w inside in
     let more = level_of_row-push t.order v (row_of t n) (sound.reduced.rows.tested n) in
     omega arith
+
+-- the new variable stands below all the others
+pub level_of-with_variable : (t : Table) (v : Var) → IsSound t → v.0 ≡ length t.order → level_of (with_variable t v) v.0 ≡ length t.order
+level_of-with_variable t v sound next = level_in-last t.order v (absent-next t v sound next)

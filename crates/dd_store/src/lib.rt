@@ -10,3 +10,6 @@ pub use handle::Handle;
 pub use refusal::{AddRefusal, OutOfMemory, Refusal};
 pub use row::{NodeNo, Row, Var};
 pub use store::{MAX_VARIABLES, Store};
+
+#[cfg(test)]
+mod tests;

@@ -17,6 +17,7 @@ impl Store {
     pub fn add_variable(&mut self) -> Result<Var, AddRefusal>
         ensures number { IfOk result (λ v. v.0 ≡ length self.old.order) }
         ensures last { IfOk result (λ v. self.new.order ≡ self.old.order ++ v ∷ []) }
+        ensures level { IfOk result (λ v. level_of self.new v.0 ≡ length self.old.order) }
         ensures too_many { (result ≡ Err AddRefusal.TooManyVariables) ↔ (length self.old.order ≡ 4096) }
         ensures refused { OnErr result (self.new.order ≡ self.old.order) }
         ensures levels { (v : ℕ) → IsVariable self.old v → level_of self.new v ≡ level_of self.old v }
