@@ -12,6 +12,7 @@ use Rattle.dd_store.specs.Follow.{end_of, follow, value_in, IsThere}
 use Rattle.dd_store.specs.Table.{Table, row_of, rows_in, node_count, handles_on, handle_count, value_of, IsVariable, IsAbove, IsLive, HasEnds, AreReduced, IsReduced, IsSound}
 use Rattle.dd_store.specs.Kept.{Index, IsKept, same_row}
 use Rattle.dd_store.specs.Changes.{AddsRow, GainsHandle, KeepsValues}
+use Rattle.dd_store.proofs.HandleLemmas.{each-gain}
 use Rattle.dd_store.proofs.ReadLemmas.{has-ends}
 use Rattle.dd_store.proofs.FollowLemmas.{follow-node, follow-same}
 
@@ -153,6 +154,10 @@ adds-slot t i r kept =
       others = λ n other. get_or-push_other t.slots (Some r) None n (λ same. other (same ∙ filled));
     }
 
+-- the counts of the other numbers stay
+count-other : (t : Table) (i : Index) (r : Row) → IsKept t i → (m : ℕ) → m ≢ i.nodes + 2 → handles_on (with_node t r) m ≡ handles_on t m
+count-other t i r kept m other = get_or-push_other t.counts 1 0 m (λ same. other (same ∙ kept.counted ∙ kept.filled))
+
 -- the handle on the new node is the only new one
 pub gains-slot : (t : Table) (i : Index) (r : Row) → IsKept t i → GainsHandle t (with_node t r) (i.nodes + 2)
 gains-slot t i r kept =
@@ -160,9 +165,10 @@ gains-slot t i r kept =
     let before : get_or t.counts (i.nodes + 2) 0 ≡ 0 = get_or_past t.counts (i.nodes + 2) 0 (omega arith) in
     let after : get_or (t.counts ++ 1 ∷ []) (i.nodes + 2) 0 ≡ 1 = ap (λ k. get_or (t.counts ++ 1 ∷ []) k 0) at ∙ get_or-append_seam t.counts 1 [] 0 in
     let total' : sum (t.counts ++ 1 ∷ []) ≡ sum t.counts + 1 = sum_by-append (λ x. x) t.counts (1 ∷ []) in
+    let gained' : handles_on (with_node t r) (i.nodes + 2) ≡ handles_on t (i.nodes + 2) + 1 = omega arith in
     record {
-      gained = omega arith;
-      others = λ m other. get_or-push_other t.counts 1 0 m (λ same. other (same ∙ sym at));
+      gained = gained';
+      each = each-gain (handles_on t) (handles_on (with_node t r)) (i.nodes + 2) gained' (count-other t i r kept);
       total = total';
     }
 
@@ -186,7 +192,7 @@ sound-with_node t i r kept can room = record {
     live' n is_live = elim (cases_eq n (i.nodes + 2)) [
       | inl same ↦ λ large. ap is_some (ap (row_of (with_node t r)) same ∙ adds.added)
       | inr other ↦
-          let before : handles_on (with_node t r) n ≡ handles_on t n = (gains-slot t i r kept).others n other in
+          let before : handles_on (with_node t r) n ≡ handles_on t n = count-other t i r kept n other in
           there-still _ _ _ r adds n (kept.sound.reduced.live n (omega arith))
     ]
 

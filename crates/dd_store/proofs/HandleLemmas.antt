@@ -2,7 +2,7 @@
 use Rattle.std.proofs.Common.{◌≡◌, ◌≢◌, ℕ, Bool, if◌then◌else◌, ◌==◌, ◌+◌, ◌-◌, ◌<◌, ◌≤◌, true, false, List, [], ◌∷◌, length, sum, Option, Some, None, is_some, Result, Ok, Err, IfOk, get_or, refl, ap, sym, ◌∙◌, subst, inl, inr, ⊎_elim, arith, get_or-set_other, get_or-set_same}
 use Rattle.std.proofs.Math.ListN.{set, length-set}
 use Rattle.std.proofs.lemmas.Grind.{get_or_default_zero}
-use Rattle.std.proofs.lemmas.Bool.{cases_eq, cases_lt, true≢false}
+use Rattle.std.proofs.lemmas.Bool.{cases_eq, cases_lt, eq-eqb, ne_eqb, true≢false}
 use Rattle.std.proofs.lemmas.List.{get_or_past}
 use Rattle.std.proofs.lemmas.List.Sums.{sum_by-set, get_or-le-sum_by}
 use Rattle.std.specs.declared.alloc.AllocError.{AllocError}
@@ -11,7 +11,7 @@ use Rattle.dd_store.specs.declared.row.NodeNo.{NodeNo}
 use Rattle.dd_store.specs.Follow.{value_in, IsThere}
 use Rattle.dd_store.specs.Table.{Table, row_of, handles_on, IsLive, IsReduced, IsSound, value_of}
 use Rattle.dd_store.specs.Kept.{Index, IsKept}
-use Rattle.dd_store.specs.Changes.{GainsHandle, LosesHandle}
+use Rattle.dd_store.specs.Changes.{one_on, GainsHandle, LosesHandle}
 use Rattle.dd_store.proofs.FollowLemmas.{follow-none}
 
 -- the table with another count of handles on one number
@@ -46,13 +46,32 @@ there-within t i n kept there =
 read-count : (t : Table) (n x : ℕ) → n < length t.counts → x ≡ get_or t.counts n x → x ≡ handles_on t n
 read-count t n x within read = read ∙ get_or_default_zero t.counts n x within
 
+-- a count that changes at one number alone
+one_on-same : (n m : ℕ) → m ≡ n → one_on n m ≡ 1
+one_on-same n m same = rw (eq-eqb m n same) refl
+
+one_on-other : (n m : ℕ) → m ≢ n → one_on n m ≡ 0
+one_on-other n m other = rw (ne_eqb m n other) refl
+
+-- what holds at n and elsewhere holds of each number
+pub each-gain : (old new : ℕ → ℕ) (n : ℕ) → new n ≡ old n + 1 → ((m : ℕ) → m ≢ n → new m ≡ old m) → (m : ℕ) → new m ≡ old m + one_on n m
+each-gain old new n gained others m = elim (cases_eq m n) [
+  | inl same ↦ ap new same ∙ gained ∙ ap (λ k. old k + 1) (sym same) ∙ ap (λ k. old m + k) (sym (one_on-same n m same))
+  | inr other ↦ (let same = others m other in let none = one_on-other n m other in omega arith)
+]
+
 -- one more handle
 pub gains-handle : (t : Table) (n x : ℕ) → n < length t.counts → x ≡ get_or t.counts n x → GainsHandle t (with_count t n (x + 1)) n
 gains-handle t n x within read =
     let is = read-count t n x within read in
     let same = get_or-set_same t.counts n (x + 1) 0 within in
     let total' = sum-set t.counts n (x + 1) within in
-    record { gained = omega arith; others = λ m other. get_or-set_other t.counts n m _ 0 other; total = omega arith }
+    let gained' : handles_on (with_count t n (x + 1)) n ≡ handles_on t n + 1 = omega arith in
+    record {
+      gained = gained';
+      each = each-gain (handles_on t) (handles_on (with_count t n (x + 1))) n gained' (λ m other. get_or-set_other t.counts n m _ 0 other);
+      total = omega arith;
+    }
 
 -- one handle less
 pub loses-handle : (t : Table) (n x : ℕ) → IsLive t n → x ≡ get_or t.counts n x → LosesHandle t (with_count t n (x - 1)) n
@@ -61,7 +80,12 @@ loses-handle t n x live read =
     let is = read-count t n x within read in
     let same = get_or-set_same t.counts n (x - 1) 0 within in
     let total' = sum-set t.counts n (x - 1) within in
-    record { lost = omega arith; others = λ m other. get_or-set_other t.counts n m _ 0 other; total = omega arith }
+    let lost' : handles_on t n ≡ handles_on (with_count t n (x - 1)) n + 1 = omega arith in
+    record {
+      lost = sym lost';
+      each = λ m. sym (each-gain (handles_on (with_count t n (x - 1))) (handles_on t) n lost' (λ m other. sym (get_or-set_other t.counts n m _ 0 other)) m);
+      total = omega arith;
+    }
 
 -- the table is as sound with a count taken down
 pub release-kept : (t : Table) (i : Index) (n x : ℕ) → IsKept t i → IsLive t n

@@ -1,5 +1,5 @@
 -- How a call changes a table, and why it refuses.
-use Rattle.std.specs.Prelude.{◌≡◌, ◌≢◌, ℕ, ◌+◌, ◌≤◌, Bool, Option, Some, None}
+use Rattle.std.specs.Prelude.{◌≡◌, ◌≢◌, ℕ, ◌+◌, ◌≤◌, ◌==◌, if◌then◌else◌, Bool, Option, Some, None}
 use Rattle.dd_store.specs.declared.row.Row.{Row}
 use Rattle.dd_store.specs.declared.refusal.Refusal.{Refusal}
 use Rattle.dd_store.specs.declared.refusal.Refusal.TheVariants.{OverBudget, OutOfMemory}
@@ -10,16 +10,20 @@ pub record KeepsHandles (old new : Table) : Type 0 where
   pub each : (n : ℕ) → handles_on new n ≡ handles_on old n
   pub total : handle_count new ≡ handle_count old
 
+-- how many handles on m a handle on n makes
+abbrev pub one_on : ℕ → ℕ → ℕ
+one_on n m = if m == n then 1 else 0
+
 -- the live handles are those before with one more, on the number n
 pub record GainsHandle (old new : Table) (n : ℕ) : Type 0 where
   pub gained : handles_on new n ≡ handles_on old n + 1
-  pub others : (m : ℕ) → m ≢ n → handles_on new m ≡ handles_on old m
+  pub each : (m : ℕ) → handles_on new m ≡ handles_on old m + one_on n m
   pub total : handle_count new ≡ handle_count old + 1
 
 -- the live handles are those before without one on the number n
 pub record LosesHandle (old new : Table) (n : ℕ) : Type 0 where
   pub lost : handles_on new n + 1 ≡ handles_on old n
-  pub others : (m : ℕ) → m ≢ n → handles_on new m ≡ handles_on old m
+  pub each : (m : ℕ) → handles_on new m + one_on n m ≡ handles_on old m
   pub total : handle_count new + 1 ≡ handle_count old
 
 -- each handle that is live before and after has the same value for every assignment
