@@ -45,7 +45,9 @@ impl Model for Store {
 
     ghost view = { λ s. record { slots = s.slots.items; order = s.order.items; counts = s.counts.items; budget = s.budget } };
 
-    ghost invariant = { λ s. IsKept (record { slots = s.slots.items; order = s.order.items; counts = s.counts.items; budget = s.budget }) (record { find = get same_row s.numbers; live = s.live; nodes = s.nodes; levels = s.levels.items }) };
+    ghost invariant = { λ s. IsKept
+        (record { slots = s.slots.items; order = s.order.items; counts = s.counts.items; budget = s.budget })
+        (record { find = get same_row s.numbers; live = s.live; nodes = s.nodes; levels = s.levels.items }) };
 }
 
 impl Store {

@@ -24,7 +24,8 @@ impl Store {
         requires above_high { IsAbove self.old var.0 high.now }
 
         // The answered handle, and where it stands.
-        ensures value { IfOk result (λ h. (a : ℕ → Bool) → value_of self.new h a ≡ (if a var.0 then value_of self.old high.now a else value_of self.old low.now a)) }
+        ensures value { IfOk result (λ h. (a : ℕ → Bool) →
+            value_of self.new h a ≡ (if a var.0 then value_of self.old high.now a else value_of self.old low.now a)) }
         ensures common_end { IfOk result (λ h. low.now ≡ high.now → h ≡ low.now) }
         ensures row { IfOk result (λ h. low.now ≢ high.now → row_of self.new h ≡ Some (row_with var.0 low.now high.now)) }
         ensures top { IfOk result (λ h. level_of self.new var.0 ≤ top_of self.new h) }
@@ -46,7 +47,8 @@ impl Store {
 
         // Over the budget exactly where the table is full and doesn't have the node.
         ensures cause { IfErr result (IsCauseFor self.old (row_with var.0 low.now high.now)) }
-        ensures over_budget { IsFullFor self.old (row_with var.0 low.now high.now) → result ≡ Err (Refusal.OverBudget self.old.budget (handle_count self.old)) }
+        ensures over_budget { IsFullFor self.old (row_with var.0 low.now high.now) →
+            result ≡ Err (Refusal.OverBudget self.old.budget (handle_count self.old)) }
     {
         let _whole = &self.slots;
         let row = Row {
@@ -80,14 +82,16 @@ impl Store {
         requires differ { row.low.0 ≢ row.high.0 }
         requires absent { (n : ℕ) → row_of self.old n ≢ Some row }
         ensures added { IfOk result (λ h. AddsRow self.old self.new h row) }
-        ensures value { IfOk result (λ h. (a : ℕ → Bool) → value_of self.new h a ≡ (if a row.var.0 then value_of self.old row.high.0 a else value_of self.old row.low.0 a)) }
+        ensures value { IfOk result (λ h. (a : ℕ → Bool) →
+            value_of self.new h a ≡ (if a row.var.0 then value_of self.old row.high.0 a else value_of self.old row.low.0 a)) }
         ensures gained { IfOk result (GainsHandle self.old self.new) }
         ensures refused_handles { OnErr result (KeepsHandles self.old self.new) }
         ensures values { KeepsValues self.old self.new }
         ensures tops { KeepsTops self.old self.new }
         ensures refused_nodes { OnErr result (KeepsNodes self.old self.new) }
         ensures cause { IfErr result (IsCauseFor self.old row) }
-        ensures over_budget { node_count self.old ≡ self.old.budget → result ≡ Err (Refusal.OverBudget self.old.budget (handle_count self.old)) }
+        ensures over_budget { node_count self.old ≡ self.old.budget →
+            result ≡ Err (Refusal.OverBudget self.old.budget (handle_count self.old)) }
         ensures sound { IsSound self.new }
     {
         if self.nodes == self.budget {
