@@ -12,6 +12,7 @@ use crate::row::{NodeNo, Row, Var};
 use indexmap::IndexMap;
 use std::alloc::Global;
 use std::marker::Model;
+use std::mem::size_of;
 pub use variables::MAX_VARIABLES;
 
 /// A table of reduced ordered binary decision diagrams (Bryant 1986), with the order of its variables, the live handles and
@@ -35,6 +36,9 @@ pub struct Store {
     /// How many nodes there may be.
     budget: u32,
 }
+
+/// A node takes at most 32 bytes beside its look-up: its slot and its count.
+const _: () = prove!(size_of::<Option<Row>>() + size_of::<u32>() <= 32);
 
 impl Model for Store {
     ghost use Rattle.dd_store.specs.Table.{Table};
