@@ -1,5 +1,5 @@
 -- A node that is added: the rows stay reduced, the values stay, and the fields stay tied to the table.
-use Rattle.std.proofs.Common.{◌≡◌, ◌≢◌, ◌⊎◌, ℕ, Bool, ◌==◌, ◌&&◌, ◌+◌, ◌<◌, ◌≤◌, suc, true, false, cond, if◌then◌else◌, List, [], ◌∷◌, ◌++◌, length, sum, Option, Some, None, is_some, IfSome, IfNone, get_or, refl, ap, sym, ◌∙◌, subst, inl, inr, arith, length-append}
+use Rattle.std.proofs.Common.{◌≡◌, ◌≢◌, ◌⊎◌, ℕ, Bool, ◌==◌, ◌&&◌, ◌+◌, ◌<◌, ◌≤◌, true, false, cond, if◌then◌else◌, List, [], ◌∷◌, ◌++◌, length, sum, Option, Some, None, is_some, IfSome, IfNone, get_or, refl, ap, sym, ◌∙◌, inl, inr, arith, length-append}
 use Rattle.std.proofs.lemmas.Bool.{cases_lt, cases_eq, eqb-true, eq-eqb, true≢false, and_parts, and_from}
 use Rattle.std.proofs.lemmas.List.{get_or_append_left, get_or_past}
 use Rattle.std.proofs.Math.Seq.{get_or-append_seam}
@@ -8,8 +8,8 @@ use Rattle.dd_store.specs.declared.row.Row.{Row}
 use Rattle.dd_store.specs.declared.row.Var.{Var}
 use Rattle.dd_store.specs.declared.row.NodeNo.{NodeNo}
 use Rattle.dd_store.specs.Order.{level_in, level_of_row, IsIn}
-use Rattle.dd_store.specs.Follow.{end_of, follow, value_in, IsThere}
-use Rattle.dd_store.specs.Table.{Table, row_of, rows_in, node_count, handles_on, handle_count, value_of, IsVariable, IsAbove, IsLive, HasEnds, AreReduced, IsReduced, IsSound}
+use Rattle.dd_store.specs.Follow.{end_of, value_in, IsThere}
+use Rattle.dd_store.specs.Table.{Table, row_of, rows_in, handles_on, value_of, IsLive, HasEnds, AreReduced, IsSound}
 use Rattle.dd_store.specs.Kept.{Index, IsKept, same_row}
 use Rattle.dd_store.specs.Changes.{AddsRow, GainsHandle, KeepsValues}
 use Rattle.dd_store.proofs.HandleLemmas.{each-gain}

@@ -1,14 +1,14 @@
 -- Two different nodes of reduced rows have different values (Bryant 1986), for every order.
-use Rattle.std.proofs.Common.{◌≡◌, ◌≢◌, ℕ, suc, ◌<◌, Bool, true, false, cond, ◌==◌, List, [], ◌∷◌, length, Option, Some, None, refl, ap, sym, ◌∙◌, subst, arith}
+use Rattle.std.proofs.Common.{◌≡◌, ◌≢◌, ℕ, suc, ◌<◌, Bool, true, false, cond, ◌==◌, List, [], ◌∷◌, length, Option, Some, None, refl, ap, sym, ◌∙◌, arith}
 use Rattle.std.specs.Prelude.{MatchOption}
-use Rattle.std.proofs.lemmas.Bool.{eqb-true, eq-eqb, true≢false}
+use Rattle.std.proofs.lemmas.Bool.{eqb-true, eq-eqb}
 use Rattle.std.proofs.lemmas.Bool.Decides.{nat_tests}
 use Rattle.dd_store.specs.declared.row.Row.{Row}
 use Rattle.dd_store.specs.declared.row.Var.{Var}
 use Rattle.dd_store.specs.Order.{level_in, level_of_row, IsIn, IsDistinct}
-use Rattle.dd_store.specs.Follow.{end_of, step, follow, value_in, with_value, IsThere}
+use Rattle.dd_store.specs.Follow.{end_of, step, value_in, with_value, IsThere}
 use Rattle.dd_store.specs.Table.{AreReduced}
-use Rattle.dd_store.proofs.FollowLemmas.{step-stays, level-stays, follow-with_value}
+use Rattle.dd_store.proofs.FollowLemmas.{level-stays, follow-with_value}
 
 -- a number without a row is a constant, and a node tests a variable of the list
 abbrev pub IsAmong : List Var → Option Row → ℕ → Type 0

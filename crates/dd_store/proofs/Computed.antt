@@ -1,6 +1,5 @@
 -- The definitions computed on one small diagram, that of 'x0 and x1, or x2'.
-use Rattle.std.proofs.Common.{◌≡◌, ℕ, Bool, true, false, ◌&&◌, ◌||◌, List, [], ◌∷◌, Option, Some, None, refl}
-use Rattle.dd_store.specs.declared.row.Row.{Row}
+use Rattle.std.proofs.Common.{◌≡◌, ℕ, true, ◌&&◌, ◌||◌, [], ◌∷◌, Some, None, refl}
 use Rattle.dd_store.specs.declared.row.Var.{Var}
 use Rattle.dd_store.specs.Table.{Table, row_with, node_count, value_of, level_of, top_of, handle_count}
 use Rattle.dd_store.specs.Size.{Function, size, level_size, truths}

@@ -1,15 +1,13 @@
 -- Counts of live handles that change at one number.
-use Rattle.std.proofs.Common.{◌≡◌, ◌≢◌, ℕ, Bool, if◌then◌else◌, ◌==◌, ◌+◌, ◌-◌, ◌<◌, ◌≤◌, true, false, List, [], ◌∷◌, length, sum, Option, Some, None, is_some, Result, Ok, Err, IfOk, get_or, refl, ap, sym, ◌∙◌, subst, inl, inr, ⊎_elim, arith, get_or-set_other, get_or-set_same}
+use Rattle.std.proofs.Common.{◌≡◌, ◌≢◌, ℕ, Bool, if◌then◌else◌, ◌==◌, ◌+◌, ◌-◌, ◌<◌, ◌≤◌, true, false, List, length, sum, None, is_some, Result, Ok, Err, IfOk, get_or, refl, ap, sym, ◌∙◌, subst, inl, inr, arith, get_or-set_other, get_or-set_same}
 use Rattle.std.proofs.Math.ListN.{set, length-set}
 use Rattle.std.proofs.lemmas.Grind.{get_or_default_zero}
 use Rattle.std.proofs.lemmas.Bool.{cases_eq, cases_lt, eq-eqb, ne_eqb, true≢false}
 use Rattle.std.proofs.lemmas.List.{get_or_past}
 use Rattle.std.proofs.lemmas.List.Sums.{sum_by-set, get_or-le-sum_by}
 use Rattle.std.specs.declared.alloc.AllocError.{AllocError}
-use Rattle.dd_store.specs.declared.row.Row.{Row}
-use Rattle.dd_store.specs.declared.row.NodeNo.{NodeNo}
-use Rattle.dd_store.specs.Follow.{value_in, IsThere}
-use Rattle.dd_store.specs.Table.{Table, row_of, handles_on, IsLive, IsReduced, IsSound, value_of}
+use Rattle.dd_store.specs.Follow.{IsThere}
+use Rattle.dd_store.specs.Table.{Table, row_of, handles_on, IsLive, IsSound, value_of}
 use Rattle.dd_store.specs.Kept.{Index, IsKept}
 use Rattle.dd_store.specs.Changes.{one_on, GainsHandle, LosesHandle}
 use Rattle.dd_store.proofs.FollowLemmas.{follow-none}

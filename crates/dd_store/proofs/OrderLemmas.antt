@@ -1,14 +1,13 @@
 -- A variable that is added last: the levels above it, the values and the table stay as they are.
-use Rattle.std.proofs.Common.{◌≡◌, ◌≢◌, ◌⊎◌, ℕ, Bool, ◌==◌, ◌+◌, ◌<◌, ◌≤◌, suc, true, false, cond, List, [], ◌∷◌, ◌++◌, length, Option, Some, None, get_or, refl, ap, sym, ◌∙◌, subst, inl, inr, arith, length-append}
-use Rattle.std.proofs.lemmas.Bool.{cases_lt, cases_eq, eqb-true, eqb-false, eq-eqb, ne_eqb}
+use Rattle.std.proofs.Common.{◌≡◌, ◌≢◌, ◌⊎◌, ℕ, Bool, ◌==◌, ◌+◌, ◌<◌, ◌≤◌, suc, true, false, cond, List, [], ◌∷◌, ◌++◌, length, Option, Some, None, get_or, refl, ap, sym, ◌∙◌, inl, inr, arith, length-append}
+use Rattle.std.proofs.lemmas.Bool.{cases_lt, eqb-true, eqb-false, eq-eqb, ne_eqb}
 use Rattle.std.proofs.lemmas.List.{get_or_append_left}
 use Rattle.std.proofs.Math.Seq.{get_or-append_seam}
 use Rattle.dd_store.specs.declared.row.Row.{Row}
 use Rattle.dd_store.specs.declared.row.Var.{Var}
-use Rattle.dd_store.specs.declared.row.NodeNo.{NodeNo}
 use Rattle.dd_store.specs.Order.{level_in, level_of_row, IsIn, IsDistinct}
-use Rattle.dd_store.specs.Follow.{end_of, step, follow, value_in}
-use Rattle.dd_store.specs.Table.{Table, row_of, value_of, level_of, IsVariable, IsAbove, AreReduced, IsReduced, IsSound}
+use Rattle.dd_store.specs.Follow.{end_of, step, follow}
+use Rattle.dd_store.specs.Table.{Table, row_of, value_of, level_of, IsVariable, IsAbove, AreReduced, IsSound}
 use Rattle.dd_store.specs.Kept.{Index, IsKept}
 use Rattle.dd_store.proofs.ReadLemmas.{level_in-≤}
 

@@ -1,5 +1,5 @@
 -- How a call changes a table, and why it refuses.
-use Rattle.std.specs.Prelude.{◌≡◌, ◌≢◌, ℕ, ◌+◌, ◌≤◌, ◌==◌, if◌then◌else◌, Bool, Option, Some, None}
+use Rattle.std.specs.Prelude.{◌≡◌, ◌≢◌, ℕ, ◌+◌, ◌≤◌, ◌==◌, if◌then◌else◌, Bool, Some, None}
 use Rattle.dd_store.specs.declared.row.Row.{Row}
 use Rattle.dd_store.specs.declared.refusal.Refusal.{Refusal}
 use Rattle.dd_store.specs.declared.refusal.Refusal.TheVariants.{OverBudget, OutOfMemory}
@@ -10,7 +10,7 @@ pub record KeepsHandles (old new : Table) : Type 0 where
   pub each : (n : ℕ) → handles_on new n ≡ handles_on old n
   pub total : handle_count new ≡ handle_count old
 
--- how many handles on m a handle on n makes
+-- what one handle on n adds to the count of m
 abbrev pub one_on : ℕ → ℕ → ℕ
 one_on n m = if m == n then 1 else 0
 

@@ -17,6 +17,8 @@ pub use variables::MAX_VARIABLES;
 
 /// A table of reduced ordered binary decision diagrams (Bryant 1986), with the order of its variables, the live handles and
 /// a budget of nodes. Contracts see it as a `Table` of `specs/Table.antt`.
+// A method that reads no field before it calls another one begins with `let _whole = &self.slots;`: what always holds of the
+// fields is known to a proof only where one of them is read.
 #[derive(Drop)]
 pub struct Store {
     /// The row of each node, by the node's number; the two constants have none.

@@ -1,6 +1,5 @@
 -- The node is added: what was pushed makes the table with one node more.
-use Rattle.std.proofs.Common.{◌≡◌, ◌≢◌, ◌∙◌, List, [], ◌∷◌, ◌++◌, Some, ℕ, Option, ap, sym, subst}
-use Rattle.dd_store.specs.declared.row.Row.{Row}
+use Rattle.std.proofs.Common.{◌≡◌, ◌∙◌, [], ◌∷◌, ◌++◌, Some, ap, sym, subst}
 use Rattle.dd_store.specs.Table.{row_of}
 use Rattle.dd_store.proofs.AddLemmas.{CanTake, adds-row, kept-with_node, sound-with_node, keeps-values, value_of-with_node}
 use Rattle.dd_store.proofs.store.Store.add.Goals as goal

@@ -1,5 +1,5 @@
 -- The variable stands last.
-use Rattle.std.proofs.Common.{rules, ◌≡◌, ◌≢◌, length, arith, ◌∙◌, [], ◌∷◌, ◌++◌, ap, sym}
+use Rattle.std.proofs.Common.{rules, ◌≡◌, ◌≢◌, length, ◌∙◌, [], ◌∷◌, ◌++◌, ap}
 use Rattle.dd_store.proofs.OrderLemmas.{kept-with_variable, sound-with_variable, value_of-with_variable, level_in-push, level_of-with_variable, above-with_variable}
 use Rattle.dd_store.proofs.store.Store.add_variable.Goals as goal
 

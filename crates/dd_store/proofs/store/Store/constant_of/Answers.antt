@@ -1,6 +1,6 @@
 -- A constant has its value for every assignment, and a node has two.
-use Rattle.std.proofs.Common.{◌≡◌, ℕ, ◌==◌, true, Some, None, Bool, sym, ap, ◌∙◌}
-use Rattle.dd_store.specs.Table.{value_of, row_of}
+use Rattle.std.proofs.Common.{◌≡◌, true, Some, None, sym, ap, ◌∙◌}
+use Rattle.dd_store.specs.Table.{row_of}
 use Rattle.dd_store.proofs.ReadLemmas.{value_of-none, node-varies}
 use Rattle.dd_store.proofs.store.Store.constant_of.Goals as goal
 

@@ -1,5 +1,5 @@
 -- One handle less on the node.
-use Rattle.dd_store.proofs.HandleLemmas.{release-kept, loses-handle}
+use Rattle.dd_store.proofs.HandleLemmas.{release-kept}
 use Rattle.dd_store.proofs.store.Store.release.Goals as goal
 
 pub invariant_of-self : goal.invariant_of-self

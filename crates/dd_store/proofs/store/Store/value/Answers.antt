@@ -1,5 +1,5 @@
 -- Each step leads to the end that the assignment takes.
-use Rattle.std.proofs.Common.{◌≡◌, ℕ, ◌<◌, length, sym, ◌∙◌, arith}
+use Rattle.std.proofs.Common.{◌≡◌, ◌<◌, length, sym, ◌∙◌, arith}
 use Rattle.dd_store.specs.Follow.{assignment_of, end_of}
 use Rattle.dd_store.specs.Table.{value_of}
 use Rattle.dd_store.proofs.ReadLemmas.{value_of-none, takes}

@@ -1,5 +1,5 @@
 -- The way goes down, and its nodes have the value of the first one.
-use Rattle.std.proofs.Common.{◌≡◌, ℕ, ◌-◌, length}
+use Rattle.std.proofs.Common.{◌≡◌, ◌-◌, length}
 use Rattle.dd_store.specs.Follow.{IsThere, assignment_of}
 use Rattle.dd_store.specs.Table.{row_of, value_of, top_of}
 use Rattle.dd_store.proofs.store.Store.value.Given as goal
