@@ -51,7 +51,7 @@ front_is text rest k so_far =
     ∙ ap (λ (t : List ℕ). take (length so_far.ends.0) t) so_far.ends.1
     ∙ take-append_seam so_far.ends.0 rest
 
-rest_is : (text rest : List ℕ) (k : ℕ) (so_far : Taken text rest k) → drop (length text - length rest) text ≡ rest
+pub rest_is : (text rest : List ℕ) (k : ℕ) (so_far : Taken text rest k) → drop (length text - length rest) text ≡ rest
 rest_is text rest k so_far =
     let halves : take (length text - length rest) text ++ drop (length text - length rest) text ≡ text = take-append-drop _ text in
     append_cancel_left' so_far.ends.0 _ rest

@@ -1,14 +1,15 @@
 -- The tokens of a text, with the layout marks, or the first place at which it can't be read on.
-use Rattle.std.specs.Prelude.{◌≡◌, ℕ, ◌-◌, Bool, true, false, not, ◌||◌, ◌==◌, if◌then◌else◌, List, [], ◌∷◌, ◌++◌, length, take, drop, replicate, Result, Ok, Err, Option, Some, None, encode_utf8_all}
+use Rattle.std.specs.Prelude.{◌≡◌, ℕ, ◌-◌, Bool, true, false, not, ◌&&◌, ◌||◌, ◌==◌, if◌then◌else◌, List, [], ◌∷◌, ◌++◌, length, take, drop, replicate, Result, Ok, Err, Option, Some, None, encode_utf8_all}
 use Rattle.std.specs.List.{list_any}
 use Rattle.uvl_base.specs.declared.place.Place.{Place}
 use Rattle.uvl_base.specs.declared.fault.FaultKind.{FaultKind}
 use Rattle.uvl_base.specs.declared.fault.FaultKind.TheVariants.{BadCharacter, BadIndent, Unclosed, NumberTooWide}
-use Rattle.uvl_base.specs.Number.{millionths_of, is_too_wide, is_point}
+use Rattle.uvl_base.specs.Number.{millionths_of, is_number, is_too_wide, is_point}
 use Rattle.uvl_lexer.specs.declared.token.Token.{Token}
 use Rattle.uvl_lexer.specs.declared.token.TokenKind.{TokenKind}
 use Rattle.uvl_lexer.specs.declared.token.TokenKind.TheVariants as token
 use Rattle.uvl_lexer.specs.declared.token.Word.{Word}
+use Rattle.uvl_lexer.specs.declared.token.Symbol.{Symbol}
 use Rattle.uvl_lexer.specs.declared.brackets.Bracket.{Bracket}
 use Rattle.uvl_lexer.specs.declared.position.Position.{Position}
 use Rattle.uvl_lexer.specs.declared.piece.PieceKind.{PieceKind}
@@ -41,18 +42,40 @@ token_of spells.Number cs = token.Number (millionths_of (encode_utf8_all cs)) (n
 token_of spells.Text cs = token.Text (inner cs)
 token_of (spells.Symbol s) cs = token.Symbol s
 
--- why a token is refused where it stands: a number that is too wide, or a bracket that closes none
+-- a number is refused where it is too wide
+abbrev pub refusal_of_number : List ℕ → Option FaultKind
+refusal_of_number bytes = if is_number bytes && not (is_too_wide bytes) then None else Some NumberTooWide
+
+-- a closing bracket is refused where it doesn't close the innermost open one
+abbrev pub refusal_of_symbol : Symbol → List Bracket → Option FaultKind
+refusal_of_symbol s brackets = if may_stand (role_of s) brackets then None else Some Unclosed
+
+-- why a token is refused where it stands
 abbrev pub refusal_of : Lexeme → List ℕ → List Bracket → Option FaultKind
 refusal_of spells.Identifier cs brackets = None
 refusal_of spells.Quoted cs brackets = None
 refusal_of spells.Text cs brackets = None
-refusal_of spells.Number cs brackets = if is_too_wide (encode_utf8_all cs) then Some NumberTooWide else None
-refusal_of (spells.Symbol s) cs brackets = if may_stand (role_of s) brackets then None else Some Unclosed
+refusal_of spells.Number cs brackets = refusal_of_number (encode_utf8_all cs)
+refusal_of (spells.Symbol s) cs brackets = refusal_of_symbol s brackets
+
+-- the brackets that stand open behind a token
+abbrev pub brackets_behind_token : Lexeme → List Bracket → List Bracket
+brackets_behind_token (spells.Symbol s) brackets = open_behind (role_of s) brackets
+brackets_behind_token _ brackets = brackets
 
 -- the brackets that stand open behind a piece
 abbrev pub brackets_behind : PieceKind → List Bracket → List Bracket
-brackets_behind (piece.Lexeme (spells.Symbol s)) brackets = open_behind (role_of s) brackets
+brackets_behind (piece.Lexeme l) brackets = brackets_behind_token l brackets
 brackets_behind _ brackets = brackets
+
+-- whether a piece is a line break
+abbrev pub is_break : PieceKind → Bool
+is_break piece.Break = true
+is_break _ = false
+
+-- a line ends at a line break outside brackets
+abbrev pub ends_line_at : PieceKind → List Bracket → Bool
+ends_line_at kind brackets = is_break kind && length brackets == 0
 
 -- A place at which no piece begins is a quote or comment that isn't closed, or a bad character, which two
 -- double quotes are too.

@@ -1,5 +1,5 @@
 //! The characters of a text, from its front on.
-ghost use Rattle.std.specs.Prelude.{◌≡◌, ◌≤◌, [], ◌∷◌, ◌++◌, MatchOption, take, drop, length, chars, encode_utf8};
+ghost use Rattle.std.specs.Prelude.{◌≡◌, ◌≤◌, [], ◌∷◌, ◌++◌, MatchOption, take, drop, length, chars, encode_utf8, IsUtf8};
 ghost use Rattle.std.specs.Bool.{OnTrue};
 ghost use Rattle.std.specs.List.{prefix_len};
 ghost use Rattle.uvl_lexer.specs.Characters.{is_of_class, begins_with, may_stand_in_text};
@@ -59,6 +59,7 @@ pub(crate) fn split_at_count(text: &str, count: usize) -> (&str, &str)
     ensures front { chars result.0.now ≡ take count (chars text.now) }
     ensures rest { chars result.1.now ≡ drop count (chars text.now) }
     ensures bytes { text.now ≡ result.0.now ++ result.1.now }
+    ensures utf8 { IsUtf8 result.1.now }
 {
     let mut rest = text;
     for _taken in 0..count {

@@ -5,12 +5,21 @@ mod brackets;
 mod characters;
 mod comment;
 mod fault;
+mod law;
 mod levels;
+mod lexer;
 mod piece;
 mod position;
+mod reader;
+mod spelling;
 mod symbol;
 mod token;
 mod word;
 
 pub use fault::LexFault;
+pub use law::every_text_is_read_once;
+pub use lexer::lex;
 pub use token::{Symbol, Token, TokenKind, Word};
+
+#[cfg(test)]
+mod tests;

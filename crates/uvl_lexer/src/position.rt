@@ -63,7 +63,7 @@ impl Position {
             PieceKind::Tab => Position {
                 byte,
                 line: self.line,
-                column: self.column + count,
+                column: self.column + 1,
                 reach: (self.reach / 8 + 1) * 8,
             },
             PieceKind::Space | PieceKind::Comment | PieceKind::Lexeme(_) => Position {
@@ -84,9 +84,7 @@ impl Position {
     {
         Position {
             byte: self.byte + 3,
-            line: self.line,
-            column: self.column,
-            reach: self.reach,
+            ..self
         }
     }
 }

@@ -1,7 +1,7 @@
 -- One character is taken after another, and the text is cut in front of what is left.
 use Rattle.std.proofs.Common.{◌≡◌, ℕ, List, [], ◌<◌, ◌-◌, length, take, drop, refl, sym, ap, ◌∙◌, subst, arith}
-use Rattle.std.specs.Prelude.{chars}
-use Rattle.uvl_lexer.proofs.Splits.{Taken, taken_more, something_left, may_be_cut, front_characters, rest_characters}
+use Rattle.std.specs.Prelude.{chars, IsUtf8}
+use Rattle.uvl_lexer.proofs.Splits.{Taken, taken_more, something_left, may_be_cut, front_characters, rest_characters, rest_is}
 use Rattle.uvl_lexer.proofs.characters.split_at_count.Goals as goal
 
 pub loop-taken-init : goal.loop-taken-init
@@ -35,3 +35,7 @@ returns-clause-rest c =
     ap chars c.split_at.ensures.back
     ∙ rest_characters c.args.text.now c.loop-taken.rest.now k c.loop-taken.invariant.1
     ∙ ap (λ (n : ℕ). drop n (chars c.args.text.now)) all
+
+pub returns-clause-utf8 : goal.returns-clause-utf8
+returns-clause-utf8 c =
+    subst (λ (t : List ℕ). IsUtf8 t) (sym (c.split_at.ensures.back ∙ rest_is c.args.text.now c.loop-taken.rest.now c.loop-taken._taken c.loop-taken.invariant.1)) c.loop-taken.invariant.1.utf8
