@@ -1,0 +1,7 @@
+pub mod Counts
+pub mod Cutting
+pub mod Laying
+pub mod Names
+pub mod Sizes
+pub mod Spelled
+pub mod Splits

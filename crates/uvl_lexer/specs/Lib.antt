@@ -1,0 +1,11 @@
+pub mod Brackets
+pub mod Characters
+pub mod Cut
+pub mod Law
+pub mod Layout
+pub mod Levels
+pub mod Pieces
+pub mod Positions
+pub mod Reading
+pub mod Spellings
+pub mod Words

@@ -1,0 +1,25 @@
+//! Characters to tokens: what the tokens of a UVL text are, and a lexer that answers exactly them.
+#![tactic(auto)]
+
+mod brackets;
+mod characters;
+mod comment;
+mod fault;
+mod law;
+mod levels;
+mod lexer;
+mod piece;
+mod position;
+mod reader;
+mod spelling;
+mod symbol;
+mod token;
+mod word;
+
+pub use fault::LexFault;
+pub use law::every_text_is_read_once;
+pub use lexer::lex;
+pub use token::{Symbol, Token, TokenKind, Word};
+
+#[cfg(test)]
+mod tests;

@@ -1,0 +1,93 @@
+//! The lexer over the rows of the language's description: each token by one sign, and each refusal.
+use crate::{LexFault, Token, TokenKind, lex};
+use std::alloc::{AllocError, Global};
+use std::test::Fail;
+use uvl_base::FaultKind;
+
+fn sign_of(kind: &TokenKind) -> char {
+    match kind {
+        TokenKind::Name { .. } => 'n',
+        TokenKind::Word(_) => 'w',
+        TokenKind::Number { whole, .. } => { if *whole { '1' } else { 'd' } }
+        TokenKind::Text(_) => 't',
+        TokenKind::Symbol(_) => 's',
+        TokenKind::Indent => '>',
+        TokenKind::Dedent => '<',
+        TokenKind::Newline => ';',
+        TokenKind::Finish => '.',
+    }
+}
+
+fn signs_of(alloc: Global, tokens: &[Token]) -> Result<String, AllocError> {
+    let mut signs = String::new(alloc);
+    for token in tokens {
+        signs.push(sign_of(&token.kind))?;
+    }
+    Ok(signs)
+}
+
+#[test]
+fn a_text_is_cut_into_the_longest_tokens_with_layout_marks(rt: HostRuntime) -> Result<(), Fail> {
+    let alloc = rt.alloc();
+    let rows = [
+        ("", "."),
+        ("features\n\tA {x 1,\n\t\ty .5}\n", "w;>nsn1snds;<."),
+        ("a\n\tb\n\t\tc\nd\n", "n;>n;>n;<<n;."),
+        ("1..2", "1s1;."),
+        ("1.", "1s;."),
+        (".5 1.5", "dd;."),
+        ("\"a\" a \"or\" or", "nnnw;."),
+        (
+            "\u{feff}features\r\n        Car\r\n\t\tmandatory\r\n",
+            "w;>n;>w;<<.",
+        ),
+        ("a // b\r\n/* c\n\t*/ d 'e'", "n;>nt;<."),
+        ("a <=> b => !c /* or */ <= d", "nsnssnsn;."),
+        ("größe#%? == 'x//y'", "nst;."),
+    ];
+    for (text, signs) in rows {
+        assert!(rt; text.len() <= 8_388_608);
+        let tokens = lex(alloc, text)?;
+        let found = signs_of(alloc, tokens.as_slice())?;
+        assert_eq!(rt; found.as_str(), signs, "{text:?}");
+    }
+    Ok(())
+}
+
+#[test]
+fn a_text_stops_at_the_first_place_that_cannot_be_read(rt: HostRuntime) {
+    let alloc = rt.alloc();
+    let rows = [
+        (
+            "features\n\tA\n\t\toptional\n            B\n",
+            4,
+            13,
+            FaultKind::BadIndent,
+        ),
+        ("features\n\tA {\n", 3, 1, FaultKind::Unclosed),
+        ("features\n\tA $\n", 2, 4, FaultKind::BadCharacter),
+        (
+            "features\n\tA {p 1234567890123}\n",
+            2,
+            7,
+            FaultKind::NumberTooWide,
+        ),
+        ("features\n\t\"A\n", 2, 2, FaultKind::Unclosed),
+        ("a\n\t\tb\n\t)", 3, 2, FaultKind::BadIndent),
+        ("/*/", 1, 1, FaultKind::Unclosed),
+        ("a \"\"", 1, 3, FaultKind::BadCharacter),
+        ("a\rb", 1, 2, FaultKind::BadCharacter),
+        ("größe (]", 1, 8, FaultKind::Unclosed),
+    ];
+    for (text, line, column, kind) in rows {
+        assert!(rt; text.len() <= 8_388_608);
+        match lex(alloc, text) {
+            Err(LexFault::At { place, kind: found }) => {
+                assert_eq!(rt; found, kind, "{text:?}");
+                assert_eq!(rt; place.line, line, "{text:?}");
+                assert_eq!(rt; place.column, column, "{text:?}");
+            }
+            _ => assert!(rt; false, "{text:?} is read"),
+        }
+    }
+}
