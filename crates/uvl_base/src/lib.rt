@@ -8,7 +8,7 @@ mod text;
 mod words;
 
 pub use fault::{FaultKind, ModelFault};
-pub use name::{Name, NameFault};
+pub use name::{Name, NameFault, is_name};
 pub use place::Place;
 pub use text::{OutOfMemory, Text};
 pub use words::is_reserved;

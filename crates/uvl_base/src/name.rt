@@ -72,7 +72,7 @@ impl Name {
 }
 
 /// Whether a text's characters are a name.
-fn is_name(text: &str) -> bool
+pub fn is_name(text: &str) -> bool
     ensures { result ≡ is_name (chars text.now) }
 {
     !text.is_empty() && all_may_stand(text)

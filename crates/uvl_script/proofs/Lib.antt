@@ -1,0 +1,6 @@
+pub mod Characters
+pub mod Commands
+pub mod Cutting
+pub mod LineEnds
+pub mod Pieces
+pub mod Reading
