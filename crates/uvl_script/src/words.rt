@@ -1,12 +1,18 @@
 //! The words of a text.
-ghost use Rattle.std.specs.Prelude.{⊤, ◌≡◌, ◌↔◌, ◌≤◌, ◌<◌, [], ◌∷◌, ◌++◌, drop, length, chars, Some, None, IsTrue, IsFalse, IsSome, IfOk, OnErr, is_some, MatchOption, MatchResult};
+ghost use Rattle.std.specs.Prelude.{⊤, List, ℕ, ◌≡◌, ◌↔◌, ◌≤◌, ◌<◌, [], ◌∷◌, ◌++◌, drop, length, chars, Some, None, IsTrue, IsFalse, IsSome, IfOk, OnErr, is_some, MatchOption, MatchResult};
 ghost use Rattle.std.specs.List.{list_all, prefix_len};
 ghost use Rattle.uvl_base.specs.Name.{is_name};
-ghost use Rattle.uvl_script.specs.Words.{is_separator, is_solid, is_unquote, ends_word, outside, in_quotes, cut, onto, words_of, onto_all};
+ghost use Rattle.uvl_script.specs.Words.{is_separator, is_solid, is_unquote, ends_word, outside, in_quotes, cut, onto, words_of, onto_all, IsMadeOf};
 
 use crate::fault::{OutOfMemory, WordFault};
 use std::alloc::{AllocError, Global};
 use uvl_base::{Name, NameFault, is_name};
+
+/// The words of a text are those that it is made of, and it is made of no others.
+pub(crate) fn every_text_has_its_words()
+    ensures made { (text : List ℕ) (words : List (List ℕ)) → words_of text ≡ Some words → IsMadeOf text words }
+    ensures alone { (text : List ℕ) (words : List (List ℕ)) → IsMadeOf text words → words_of text ≡ Some words }
+{}
 
 /// Whether the text is made of words that are names, and of separators.
 pub(crate) fn has_words(text: &str) -> bool
