@@ -16,13 +16,20 @@ is_some-onto word None = refl
 is_some-onto word (Some words) = refl
 
 -- the next word is one more of those in front
-pub onto_all-next : (words : List (List ℕ)) (word : List ℕ) (more : Option (List (List ℕ))) → onto_all words (onto word more) ≡ onto_all (words ++ word ∷ []) more
+onto_all-next : (words : List (List ℕ)) (word : List ℕ) (more : Option (List (List ℕ))) → onto_all words (onto word more) ≡ onto_all (words ++ word ∷ []) more
 onto_all-next words word None = refl
 onto_all-next words word (Some more) = ap Some (sym (append_assoc words (word ∷ []) more))
 
 pub onto_all-nil : (more : Option (List (List ℕ))) → more ≡ onto_all [] more
 onto_all-nil None = refl
 onto_all-nil (Some more) = refl
+
+-- a name copied from the next word is one more of those in front
+pub copied : (whole left more : Option (List (List ℕ))) (words new : List (List ℕ)) (name word : List ℕ)
+    → whole ≡ onto_all words left → left ≡ onto word more → name ≡ word → new ≡ words ++ name ∷ [] → whole ≡ onto_all new more
+copied whole left more words new name word so_far first same pushed =
+    so_far ∙ ap (λ some. onto_all words some) first ∙ onto_all-next words word more
+    ∙ ap (λ items. onto_all items more) (sym (pushed ∙ ap (λ n. words ++ n ∷ []) same))
 
 -- where nothing is left the words in front are all
 pub onto_all-done : (whole left : Option (List (List ℕ))) (words : List (List ℕ)) → whole ≡ onto_all words left → left ≡ Some [] → whole ≡ Some words

@@ -33,9 +33,9 @@ pub fn read_line(alloc: Global, line: &[u8]) -> Result<Option<Command>, LineFaul
 fn read_words(alloc: Global, line: &[u8]) -> Result<Option<Command>, LineFault>
     ensures { IsAnswered (reading_of_words (words_of_line line.now)) result }
 {
-    match split_word(text_of_words(line)?) {
-        Ok(Some((name, text))) => Ok(Some(command_of(alloc, name, text)?)),
-        Ok(None) | Err(_) => Ok(None),
+    match split_word(text_of_words(line)?)? {
+        Some((name, text)) => Ok(Some(command_of(alloc, name, text)?)),
+        None => Ok(None),
     }
 }
 

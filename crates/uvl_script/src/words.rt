@@ -35,6 +35,7 @@ pub(crate) fn copy_words(alloc: Global, text: &str) -> Result<Vec<Name>, OutOfMe
 {
     let mut words = Vec::new(alloc);
     let mut rest = text;
+    // What is left is made of words too, so that nothing but its end ends the loop.
     while let Ok(Some((word, behind))) = split_word(rest) {
         words.push(copy_word(alloc, word)?)?;
         rest = behind;
