@@ -5,9 +5,6 @@ ghost use Rattle.uvl_script.specs.Faults.{word_of};
 use std::alloc::AllocError;
 use thiserror::Error;
 
-/// The error of a call that nothing but want of memory can refuse.
-pub type OutOfMemory = AllocError;
-
 /// Why a line cannot be cut into words.
 #[derive(Clone, Copy, Debug, PartialEq, Eq, Error)]
 pub enum WordFault {

@@ -7,7 +7,7 @@ mod line;
 mod words;
 
 pub use command::{Command, Names};
-pub use fault::{LineFault, OutOfMemory, WordFault};
+pub use fault::{LineFault, WordFault};
 pub use line::{MOST_LINE_BYTES, read_line, split_words};
 
 #[cfg(test)]

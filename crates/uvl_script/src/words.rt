@@ -4,9 +4,9 @@ ghost use Rattle.std.specs.List.{list_all, prefix_len};
 ghost use Rattle.uvl_base.specs.Name.{is_name};
 ghost use Rattle.uvl_script.specs.Words.{is_separator, is_solid, is_unquote, ends_word, outside, in_quotes, cut, onto, words_of, onto_all, IsMadeOf};
 
-use crate::fault::{OutOfMemory, WordFault};
+use crate::fault::WordFault;
 use std::alloc::{AllocError, Global};
-use uvl_base::{Name, NameFault, is_name};
+use uvl_base::{Name, NameFault, OutOfMemory, is_name};
 
 /// The words of a text are those that it is made of, and it is made of no others.
 pub(crate) fn every_text_has_its_words()
