@@ -1,20 +1,24 @@
 //! Each call on its happy path, and the limit on variables.
-use crate::{AddRefusal, Store};
+use crate::{AddRefusal, NodeNo, Store};
 use std::test::Fail;
 
 #[test]
-fn a_node_has_the_values_of_its_ends(rt: HostRuntime) -> Result<(), Fail> {
+fn the_diagram_of_x_and_y_has_its_table(rt: HostRuntime) -> Result<(), Fail> {
     let mut store = Store::new(rt.alloc(), 16)?;
     let x = store.add_variable()?;
+    let y = store.add_variable()?;
     let no = store.constant(false)?;
     let yes = store.constant(true)?;
-    let not_x = store.node(x, &yes, &no)?;
-    for (mark, wanted) in [(false, true), (true, false)] {
-        assert_eq!(rt; store.value(&not_x, &[mark]), wanted);
+    let is_y = store.node(y, &no, &yes)?;
+    let both = store.node(x, &no, &is_y)?;
+    for case in [(false, false), (false, true), (true, false), (true, true)] {
+        let wanted = case.0 && case.1;
+        assert_eq!(rt; store.value(&both, &[case.0, case.1]), wanted);
     }
-    assert_eq!(rt; store.constant_of(&not_x), None);
-    let ends = (x, store.node_of(&yes), store.node_of(&no));
-    assert_eq!(rt; store.ends(store.node_of(&not_x)), Some(ends));
+    assert_eq!(rt; store.nodes(), 2);
+    assert_eq!(rt; store.constant_of(&both), None);
+    let ends = (x, NodeNo::NO, store.node_of(&is_y));
+    assert_eq!(rt; store.ends(store.node_of(&both)), Some(ends));
     Ok(())
 }
 
