@@ -1,0 +1,33 @@
+-- The variable stands last.
+use Rattle.std.proofs.Common.{rules, ◌≡◌, ◌≢◌, length, arith, ◌∙◌, [], ◌∷◌, ◌++◌, ap, sym}
+use Rattle.dd_store.proofs.OrderLemmas.{kept-with_variable, sound-with_variable, value_of-with_variable, level_in-push, level_of-with_variable, above-with_variable}
+use Rattle.dd_store.proofs.store.Store.add_variable.Goals as goal
+
+order : (c : goal.After-push_within_capacity) → c.push_within_capacity.new.items.items ≡ c.self.inside.order.items ++ record { 0 = c.len-count.result } ∷ []
+order c = c.push_within_capacity.ensures ∙ ap (λ xs. xs ++ record { 0 = c.len-count.result } ∷ []) c.reserve.ensures.items
+
+next : (c : goal.After-push_within_capacity) → c.len-count.result ≡ length c.self.inside.order.items
+next c = search rules
+
+room : (c : goal.After-push_within_capacity) → length c.self.inside.order.items ≢ 4096
+room c = λ full. c.if-count-eq-MAX_VARIABLES.false (next c ∙ full)
+
+pub invariant_of-self-2 : goal.invariant_of-self-2
+invariant_of-self-2 c =
+    rw (order c, c.in_ok-push.ensures.items) (kept-with_variable _ _ (record { 0 = c.len-count.result }) c.self.invariant (next c) (room c))
+
+pub returns-clause-sound : goal.returns-clause-sound
+returns-clause-sound c = rw (order c) (sound-with_variable _ (record { 0 = c.len-count.result }) c.self.invariant.sound (next c) (room c))
+
+pub returns-clause-values : goal.returns-clause-values
+returns-clause-values c = λ n a.
+    rw (order c, ← c.self.view_is) (value_of-with_variable _ (record { 0 = c.len-count.result }) c.self.invariant.sound (next c) n a)
+
+pub returns-clause-levels : goal.returns-clause-levels
+returns-clause-levels c = rw (order c, ← c.self.view_is) (level_in-push c.self.inside.order.items (record { 0 = c.len-count.result }))
+
+pub returns-clause-above : goal.returns-clause-above
+returns-clause-above c = rw (order c, ← c.self.view_is) (above-with_variable _ (record { 0 = c.len-count.result }) c.self.invariant.sound)
+
+pub returns-clause-level : goal.returns-clause-level
+returns-clause-level c = rw (order c, ← c.self.view_is) (level_of-with_variable _ (record { 0 = c.len-count.result }) c.self.invariant.sound (next c))

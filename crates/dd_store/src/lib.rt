@@ -1,0 +1,15 @@
+//! One table of reduced ordered binary decision diagrams (Bryant 1986), shared by all who hold handles of it.
+#![tactic(auto)]
+
+mod handle;
+mod refusal;
+mod row;
+mod store;
+
+pub use handle::Handle;
+pub use refusal::{AddRefusal, OutOfMemory, Refusal};
+pub use row::{NodeNo, Row, Var};
+pub use store::{MAX_VARIABLES, Store};
+
+#[cfg(test)]
+mod tests;
