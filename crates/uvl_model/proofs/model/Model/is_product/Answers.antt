@@ -11,7 +11,7 @@ use Rattle.uvl_model.proofs.model.Model.is_product.Goals as goal
 pub returns-then-is_chosen-clause-product : goal.returns-then-is_chosen-clause-product
 returns-then-is_chosen-clause-product c = λ tree spelled.
     let sound = subst IsSound c.self.view_is c.self.invariant.0 in
-    let same = product_of_chosen c.args.self.now c.args.chosen.now sound c.requires tree spelled in
+    let same = product_of_chosen c.args.self.now c.args.chosen.now sound tree spelled in
     let root : is_marked c.args.chosen.now (numbered 0) ≡ true = sym c.is_chosen.ensures ∙ c.if-is_chosen.true in
     let rows = ap (λ (rows : Rows). list_all (group_holds c.args.chosen.now) rows.groups) c.self.view_is in
     c.groups_hold.ensures ∙ ap (list_all (group_holds c.args.chosen.now)) c.as_slice.ensures ∙ rows ∙ (rw root at same)
@@ -19,6 +19,6 @@ returns-then-is_chosen-clause-product c = λ tree spelled.
 pub returns-else-is_chosen-clause-product : goal.returns-else-is_chosen-clause-product
 returns-else-is_chosen-clause-product c = λ tree spelled.
     let sound = subst IsSound c.self.view_is c.self.invariant.0 in
-    let same = product_of_chosen c.args.self.now c.args.chosen.now sound c.requires tree spelled in
+    let same = product_of_chosen c.args.self.now c.args.chosen.now sound tree spelled in
     let root : is_marked c.args.chosen.now (numbered 0) ≡ false = sym c.is_chosen.ensures ∙ c.if-is_chosen.false in
     c.if-is_chosen.false ∙ (rw root at same)
