@@ -1,0 +1,4 @@
+pub mod Thin
+pub mod Outline
+pub mod Choice
+pub mod Laws
