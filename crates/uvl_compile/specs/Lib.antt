@@ -2,3 +2,6 @@ pub mod Thin
 pub mod Outline
 pub mod Choice
 pub mod Laws
+pub mod Entering
+pub mod Held
+pub mod Row
