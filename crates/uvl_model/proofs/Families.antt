@@ -55,11 +55,11 @@ product_by_rows marks set tree rows spelled agree =
     (root_case (list_all (has (names_of tree)) set) (has set (top_name tree)) _ (fits tree set) (is_absent tree set) _ (top_agrees marks set tree here) (tree_holds marks set tree 0 here))
 
 -- the chosen features are a product of each tree that sound rows spell exactly where the check says so
-pub product_of_chosen : (rows : Rows) (marks : List Bool) → IsSound rows → length marks ≡ length rows.features → (tree : Tree) → Spells tree rows
+pub product_of_chosen : (rows : Rows) (marks : List Bool) → IsSound rows → (tree : Tree) → Spells tree rows
     → (is_marked marks (numbered 0) && list_all (group_holds marks) rows.groups) ≡ is_product tree (chosen_names rows marks)
-product_of_chosen rows marks sound many tree spelled =
+product_of_chosen rows marks sound tree spelled =
     let distinct = subst AreDistinct (sym (spelled_names sound.tree rows sound.spelled)) sound.within.distinct in
-    let agree = marks_agree (feature_names rows) marks distinct (many ∙ sym (length-map rows.features (λ row. row.name))) in
+    let agree = marks_agree (feature_names rows) marks distinct in
     sym (product_by_rows marks (chosen_names rows marks) tree rows spelled agree ∙ rw (marked_within (feature_names rows) marks) refl)
 
 -- and so is each set that the marks stand for

@@ -36,17 +36,21 @@ agree_behind b marks set next n (x ∷ xs) same h =
       agree_behind b marks set next (n + 1) xs (λ z c. same z (Contains-append_right (x ∷ []) xs z c)) h.1,
     )
 
--- the marks of distinct names agree with the set of the marked names
-pub marks_agree : (names : List (List ℕ)) (marks : List Bool) → AreDistinct names → length marks ≡ length names → AgreeFrom marks (marked names marks) 0 names
-marks_agree [] marks d e = tt
-marks_agree (y ∷ ys) [] d e = absurd (omega arith)
-marks_agree (y ∷ ys) (b ∷ bs) d e =
-    let fewer : length bs ≡ length ys = omega arith in
+-- no marks agree with the empty set
+none_agree : (n : ℕ) (names : List (List ℕ)) → AgreeFrom [] [] n names
+none_agree n [] = tt
+none_agree n (y ∷ ys) = (refl, none_agree (n + 1) ys)
+
+-- the marks of distinct names agree with the set of the marked names, where a name beyond the end of the marks isn't marked
+pub marks_agree : (names : List (List ℕ)) (marks : List Bool) → AreDistinct names → AgreeFrom marks (marked names marks) 0 names
+marks_agree [] marks d = tt
+marks_agree (y ∷ ys) [] d = none_agree 0 (y ∷ ys)
+marks_agree (y ∷ ys) (b ∷ bs) d =
     let absent = marked_absent ys bs y (has-absent ys y d.0) in
     let head = elim b as (λ v. has (if v then y ∷ marked ys bs else marked ys bs) y ≡ v) [ true ↦ or_left _ _ (bytes_eq-same y) | false ↦ absent ] in
     let others = elim b as (λ v. (x : List ℕ) → Contains ys x → has (if v then y ∷ marked ys bs else marked ys bs) x ≡ has (marked ys bs) x)
     [ true ↦ λ x c. rw (bytes_eq-other ys x y d.0 c) refl | false ↦ λ x c. refl ] in
-    (head, agree_behind b bs (marked ys bs) (if b then y ∷ marked ys bs else marked ys bs) 0 ys others (marks_agree ys bs d.1 fewer))
+    (head, agree_behind b bs (marked ys bs) (if b then y ∷ marked ys bs else marked ys bs) 0 ys others (marks_agree ys bs d.1))
 
 -- the marks that a set gives to names agree with it
 pub given_marks_agree : (set names : List (List ℕ)) → AgreeFrom (map (has set) names) set 0 names

@@ -8,7 +8,7 @@ mod model;
 mod names;
 mod rows;
 
-pub use laws::{products_are_sets, rows_give_names, rows_give_products};
+pub use laws::{products_are_sets, rows_check_products, rows_give_names, rows_give_products};
 pub use model::Model;
 pub use names::NameIndex;
 pub use rows::{FeatureNo, FeatureRow, GroupRow};

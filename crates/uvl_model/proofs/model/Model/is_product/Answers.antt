@@ -23,7 +23,7 @@ by_root c =
 
 pub returns-then-is_chosen-clause-product : goal.returns-then-is_chosen-clause-product
 returns-then-is_chosen-clause-product c = λ tree spelled.
-    by_groups c ∙ product_of_chosen c.args.self.now c.args.chosen.now (subst IsSound c.self.view_is c.self.invariant.0) c.requires tree spelled
+    by_groups c ∙ product_of_chosen c.args.self.now c.args.chosen.now (subst IsSound c.self.view_is c.self.invariant.0) tree spelled
 
 pub returns-then-is_chosen-clause-each_set : goal.returns-then-is_chosen-clause-each_set
 returns-then-is_chosen-clause-each_set c = λ tree set spelled stand.
@@ -31,7 +31,7 @@ returns-then-is_chosen-clause-each_set c = λ tree set spelled stand.
 
 pub returns-else-is_chosen-clause-product : goal.returns-else-is_chosen-clause-product
 returns-else-is_chosen-clause-product c = λ tree spelled.
-    by_root c ∙ product_of_chosen c.args.self.now c.args.chosen.now (subst IsSound c.self.view_is c.self.invariant.0) c.requires tree spelled
+    by_root c ∙ product_of_chosen c.args.self.now c.args.chosen.now (subst IsSound c.self.view_is c.self.invariant.0) tree spelled
 
 pub returns-else-is_chosen-clause-each_set : goal.returns-else-is_chosen-clause-each_set
 returns-else-is_chosen-clause-each_set c = λ tree set spelled stand.

@@ -1,0 +1,6 @@
+pub mod GroupTests
+pub mod Allowed
+pub mod Growing
+pub mod Rows
+pub mod Entries
+pub mod Limits

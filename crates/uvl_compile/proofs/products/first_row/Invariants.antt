@@ -1,0 +1,18 @@
+-- The row is that of the features from this one on.
+use Rattle.std.proofs.Common.{◌≤◌, ◌-◌, ◌*◌, length, drop}
+use Rattle.dd_store.specs.Table.{IsSound}
+use Rattle.uvl_compile.specs.Held.{HoldsMore, Grows}
+use Rattle.uvl_compile.specs.Row.{IsRow}
+use Rattle.uvl_compile.proofs.products.first_row.Given as goal
+
+abbrev pub invariant-loop-feature : goal.invariant-loop-feature
+invariant-loop-feature l = record {
+  row : IsRow l.store l.feature (drop l.feature l.entries) l.row.items;
+  held : HoldsMore l.fn.store l.store l.row.items;
+  grows : Grows l.fn.store l.store (64 * (length l.entries - l.feature));
+  sound : IsSound l.store;
+  within : l.feature ≤ length l.entries;
+}
+
+abbrev pub decreases-loop-feature : goal.decreases-loop-feature
+decreases-loop-feature l = l.feature

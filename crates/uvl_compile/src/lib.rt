@@ -1,0 +1,11 @@
+//! From a feature model to the decision diagram of its products.
+#![tactic(auto)]
+
+mod handles;
+mod laws;
+mod outline;
+mod products;
+mod row;
+
+pub use laws::outline_tells_products;
+pub use products::compile;

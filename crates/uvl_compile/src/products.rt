@@ -1,0 +1,103 @@
+//! The diagram of a model's products, made from the last feature to the first.
+ghost use Rattle.std.specs.Prelude.{◌≡◌, ℕ, ◌+◌, ◌*◌, ◌<◌, ◌≤◌, Bool, List, [], length, IfOk, OnErr};
+ghost use Rattle.dd_store.specs.Changes.{KeepsHandles, KeepsRows, KeepsTops, KeepsValues, GainsHandle};
+ghost use Rattle.dd_store.specs.Follow.{assignment_of};
+ghost use Rattle.dd_store.specs.Table.{IsSound, node_count, value_of};
+ghost use Rattle.uvl_model.specs.Names.{chosen_names};
+ghost use Rattle.uvl_model.specs.Product.{is_product};
+ghost use Rattle.uvl_model.specs.Spelling.{Spells};
+ghost use Rattle.uvl_model.specs.Tree.{Tree};
+ghost use Rattle.uvl_compile.specs.Entering.{AreShallow};
+ghost use Rattle.uvl_compile.specs.Held.{HoldsMore, Grows};
+ghost use Rattle.uvl_compile.specs.Row.{IsAscending, IsRow};
+ghost use Rattle.uvl_compile.specs.Thin.{IsThin};
+
+use crate::handles::{push_within_capacity, release_all};
+use crate::laws::outline_tells_products;
+use crate::outline::{Entry, outline};
+use crate::row::feature_row;
+use dd_store::{Handle, OutOfMemory, Store};
+use std::alloc::Global;
+use uvl_model::{Model, rows_give_names};
+
+/// A handle whose value for an assignment is whether the features with a true variable are a
+/// product of the model. Variable k stands for feature k, and other variables have no say.
+///
+/// It asks for at most 64 nodes for each feature, one for each number of features on the path from
+/// the root that may be chosen.
+pub fn compile(alloc: Global, store: &mut Store, model: &Model) -> Result<Handle, OutOfMemory>
+    requires thin { IsThin model.now }
+    requires variables { IsAscending store.old.order (length model.now.features) }
+    requires room { node_count store.old + 64 * length model.now.features ≤ store.old.budget }
+
+    // The answered handle.
+    ensures products { IfOk result (λ h. (tree : Tree) (marks : List Bool) → Spells tree model.now
+        → value_of store.new h (assignment_of marks) ≡ is_product tree (chosen_names model.now marks)) }
+
+    // The live handles, and their values.
+    ensures gained { IfOk result (GainsHandle store.old store.new) }
+    ensures refused { OnErr result (KeepsHandles store.old store.new) }
+    ensures values { KeepsValues store.old store.new }
+    ensures tops { KeepsTops store.old store.new }
+
+    // The nodes.
+    ensures stay { KeepsRows store.old store.new }
+    ensures few_new { node_count store.new ≤ node_count store.old + 64 * length model.now.features }
+    ensures order { store.new.order ≡ store.old.order }
+    ensures budget { store.new.budget ≡ store.old.budget }
+    ensures sound { IsSound store.new }
+{
+    outline_tells_products();
+    rows_give_names();
+    store.nodes();
+    let features = model.features().len();
+    let entries = outline(alloc, model)?;
+    let mut row = first_row(alloc, store, &entries)?;
+    match row.pop() {
+        Some(handle) => Ok(handle),
+        None => unreachable!(),
+    }
+}
+
+/// The row of the first feature: one handle, as no feature stands above the root.
+fn first_row(
+    alloc: Global,
+    store: &mut Store,
+    entries: &[Entry],
+) -> Result<Vec<Handle>, OutOfMemory>
+    requires few { length entries.now ≤ 2048 }
+    requires shallow { AreShallow 63 entries.now }
+    requires variables { IsAscending store.old.order (length entries.now) }
+    requires room { node_count store.old + 64 * length entries.now ≤ store.old.budget }
+    ensures row { IfOk result (λ row. IsRow store.new 0 entries.now row.items) }
+    ensures held { IfOk result (λ row. HoldsMore store.old store.new row.items) }
+    ensures refused { OnErr result (KeepsHandles store.old store.new) }
+    ensures grows { Grows store.old store.new (64 * length entries.now) }
+    ensures sound { IsSound store.new }
+{
+    let mut row = last_row(alloc, store)?;
+    let mut feature = entries.len();
+    while feature > 0 {
+        feature -= 1;
+        let above = feature_row(alloc, store, entries, feature, &row);
+        release_all(store, row);
+        row = above?;
+    }
+    Ok(row)
+}
+
+/// The row behind the last feature: all is allowed.
+fn last_row(alloc: Global, store: &mut Store) -> Result<Vec<Handle>, OutOfMemory>
+    ensures row { IfOk result (λ row. (n : ℕ) → IsAscending store.old.order n → IsRow store.new n [] row.items) }
+    ensures held { IfOk result (λ row. HoldsMore store.old store.new row.items) }
+    ensures refused { OnErr result (KeepsHandles store.old store.new) }
+    ensures grows { Grows store.old store.new 0 }
+    ensures sound { IsSound store.new }
+{
+    store.nodes();
+    let mut row = Vec::new(alloc);
+    row.reserve(1)?;
+    let yes = store.constant(true)?;
+    push_within_capacity(&mut row, yes);
+    Ok(row)
+}
