@@ -4,7 +4,7 @@ use Rattle.std.specs.List.{list_any}
 use Rattle.uvl_base.specs.declared.place.Place.{Place}
 use Rattle.uvl_base.specs.declared.fault.FaultKind.{FaultKind}
 use Rattle.uvl_base.specs.declared.fault.FaultKind.TheVariants.{BadCharacter, BadIndent, Unclosed, NumberTooWide}
-use Rattle.uvl_base.specs.Number.{millionths_of, is_number, is_too_wide, is_point}
+use Rattle.uvl_base.specs.Number.{millionths_of, is_too_wide, is_point}
 use Rattle.uvl_lexer.specs.declared.token.Token.{Token}
 use Rattle.uvl_lexer.specs.declared.token.TokenKind.{TokenKind}
 use Rattle.uvl_lexer.specs.declared.token.TokenKind.TheVariants as token
@@ -44,7 +44,7 @@ token_of (spells.Symbol s) cs = token.Symbol s
 
 -- a number is refused where it is too wide
 abbrev pub refusal_of_number : List ℕ → Option FaultKind
-refusal_of_number bytes = if is_number bytes && not (is_too_wide bytes) then None else Some NumberTooWide
+refusal_of_number bytes = if is_too_wide bytes then Some NumberTooWide else None
 
 -- a closing bracket is refused where it doesn't close the innermost open one
 abbrev pub refusal_of_symbol : Symbol → List Bracket → Option FaultKind

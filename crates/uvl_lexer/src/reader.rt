@@ -1,5 +1,6 @@
 //! The reader of a text: the tokens so far, and what the next ones depend on.
-ghost use Rattle.std.specs.Prelude.{◌≡◌, ◌+◌, ◌≤◌, [], ◌∷◌, ◌++◌, ◌&&◌, not, true, false, IfErr, OnOk, None, length, chars};
+ghost use Rattle.std.specs.Prelude.{◌≡◌, ◌+◌, ◌≤◌, [], ◌∷◌, ◌++◌, ◌&&◌, not, true, false, IfErr, OnOk, None, IsTrue, length, chars};
+ghost use Rattle.uvl_base.specs.Number.{is_number};
 ghost use Rattle.uvl_lexer.specs.Cut.{Cut, Begins, cut, comment_onto, comment_piece, piece_onto};
 ghost use Rattle.uvl_lexer.specs.Layout as spec;
 ghost use Rattle.uvl_lexer.specs.Layout.{is_break, ends_line_at};
@@ -15,7 +16,7 @@ use crate::fault::LexFault;
 use crate::levels::Levels;
 use crate::piece::{Lexeme, PieceKind};
 use crate::position::Position;
-use crate::spelling::{is_readable, token_of};
+use crate::spelling::{is_too_wide, token_of};
 use crate::token::{Symbol, Token, TokenKind};
 use std::alloc::Global;
 use uvl_base::FaultKind;
@@ -157,6 +158,7 @@ impl Reader {
 
     /// Why a token is refused where it stands.
     fn refusal_of(&self, lexeme: Lexeme, spelling: &str) -> Option<FaultKind>
+        requires { IsSpelling lexeme (chars spelling.now) }
         ensures { result ≡ spec.refusal_of lexeme (chars spelling.now) self.now.brackets }
     {
         match lexeme {
@@ -396,11 +398,12 @@ fn is_break(kind: PieceKind) -> bool
 }
 
 fn refusal_of_number(spelling: &str) -> Option<FaultKind>
+    requires { IsTrue (is_number spelling.now) }
     ensures { result ≡ spec.refusal_of_number spelling.now }
 {
-    if is_readable(spelling) {
-        None
-    } else {
+    if is_too_wide(spelling) {
         Some(FaultKind::NumberTooWide)
+    } else {
+        None
     }
 }
