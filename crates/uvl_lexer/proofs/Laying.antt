@@ -18,12 +18,13 @@ use Rattle.uvl_lexer.specs.declared.fault.LexFault.TheVariants.{At, OutOfMemory}
 use Rattle.uvl_lexer.specs.declared.piece.Lexeme.{Lexeme}
 use Rattle.uvl_lexer.specs.declared.piece.PieceKind.{PieceKind}
 use Rattle.uvl_lexer.specs.declared.piece.PieceKind.TheVariants as piece
-use Rattle.uvl_lexer.specs.Cut.{Cut, Whole, Unread, Begins, comment_onto, comment_piece}
+use Rattle.uvl_lexer.specs.Cut.{Cut, cut, Whole, Unread, Begins, comment_onto, comment_piece}
 use Rattle.uvl_lexer.specs.Pieces.{Piece}
 use Rattle.uvl_lexer.specs.Reading.{OnFault}
 use Rattle.uvl_lexer.specs.Spellings.{IsBlank}
-use Rattle.uvl_lexer.specs.Layout.{Lexed, Units, tokens_onto, laid_out, token_onto, token_at, token_of, mark_at, marks_before, newline_at, levels_after, may_begin, dedents, units_of, refusal_of, brackets_behind, brackets_behind_token, ends_line_at, fault_at}
-use Rattle.uvl_lexer.specs.Levels.{innermost, closed_by, kept_by}
+use Rattle.uvl_lexer.specs.Layout.{Lexed, Units, Finished, Stopped, Refused, Ended, Spelled, Lines, NoMore, Unreadable, RefusedFirst, Line, BrokenOff, Begun, lines_from, laid_out, line_marks, tokens_onto, token_onto, token_at, token_of, mark_at, dedents, units_of, refusal_of, brackets_behind, brackets_behind_token, ends_line_at, fault_at, lexed, after_mark, front_of}
+use Rattle.uvl_lexer.specs.Turns.{read_units, read_through, marks_before, newline_at, levels_after, may_begin}
+use Rattle.uvl_lexer.specs.Levels.{innermost, closed_by, kept_by, is_aligned, levels_behind}
 use Rattle.uvl_lexer.specs.Positions.{place_of, behind}
 
 -- tokens in front of tokens
@@ -48,38 +49,38 @@ closes_one i (l ∷ ls) p h =
 
 -- readers that say the same read the same
 read_same : (a a' : List Token) (b b' : Bool) (l l' : List ℕ) (k k' : List Bracket) (p p' : Position) (rest : Cut) → a ≡ a' → b ≡ b' → l ≡ l' → k ≡ k' → p ≡ p'
-    → tokens_onto a (laid_out b l (units_of p k rest)) ≡ tokens_onto a' (laid_out b' l' (units_of p' k' rest))
+    → tokens_onto a (read_units b l (units_of p k rest)) ≡ tokens_onto a' (read_units b' l' (units_of p' k' rest))
 read_same a a' b b' l l' k k' p p' rest ea eb el ek ep =
-    ap (λ (x : List Token). tokens_onto x (laid_out b l (units_of p k rest))) ea
-    ∙ ap (λ (x : Bool). tokens_onto a' (laid_out x l (units_of p k rest))) eb
-    ∙ ap (λ (x : List ℕ). tokens_onto a' (laid_out b' x (units_of p k rest))) el
-    ∙ ap (λ (x : List Bracket). tokens_onto a' (laid_out b' l' (units_of p x rest))) ek
-    ∙ ap (λ (x : Position). tokens_onto a' (laid_out b' l' (units_of x k' rest))) ep
+    ap (λ (x : List Token). tokens_onto x (read_units b l (units_of p k rest))) ea
+    ∙ ap (λ (x : Bool). tokens_onto a' (read_units x l (units_of p k rest))) eb
+    ∙ ap (λ (x : List ℕ). tokens_onto a' (read_units b' x (units_of p k rest))) el
+    ∙ ap (λ (x : List Bracket). tokens_onto a' (read_units b' l' (units_of p x rest))) ek
+    ∙ ap (λ (x : Position). tokens_onto a' (read_units b' l' (units_of x k' rest))) ep
 
 -- a token that may stand is taken, with the marks in front of it
 pub token_taken : (front : List Token) (begun : Bool) (levels : List ℕ) (refusal : Option FaultKind) (p : Position) (kind : TokenKind) (after : Position) (rest : Units)
     → may_begin begun levels p ≡ true → refusal ≡ None
-    → tokens_onto front (laid_out begun levels (token_onto refusal p kind after rest))
-    ≡ tokens_onto (front ++ (marks_before begun levels p ++ token_at kind p after ∷ [])) (laid_out true (levels_after begun levels p) rest)
+    → tokens_onto front (read_units begun levels (token_onto refusal p kind after rest))
+    ≡ tokens_onto (front ++ (marks_before begun levels p ++ token_at kind p after ∷ [])) (read_units true (levels_after begun levels p) rest)
 token_taken front begun levels refusal p kind after rest stands none =
     let new = marks_before begun levels p ++ token_at kind p after ∷ [] in
-    ap (λ (r : Option FaultKind). tokens_onto front (laid_out begun levels (token_onto r p kind after rest))) none
+    ap (λ (r : Option FaultKind). tokens_onto front (read_units begun levels (token_onto r p kind after rest))) none
     ∙ ap (tokens_onto front) (cond-true (may_begin begun levels p) _ _ stands)
-    ∙ tokens_onto-append front new (laid_out true (levels_after begun levels p) rest)
+    ∙ tokens_onto-append front new (read_units true (levels_after begun levels p) rest)
 
 -- a token on a badly indented line is refused
 pub line_refused : (front : List Token) (begun : Bool) (levels : List ℕ) (refusal : Option FaultKind) (p : Position) (kind : TokenKind) (after : Position) (rest : Units)
     → may_begin begun levels p ≡ false
-    → tokens_onto front (laid_out begun levels (token_onto refusal p kind after rest)) ≡ Err (place_of p, BadIndent)
+    → tokens_onto front (read_units begun levels (token_onto refusal p kind after rest)) ≡ Err (place_of p, BadIndent)
 line_refused front begun levels None p kind after rest bad = ap (tokens_onto front) (cond-false (may_begin begun levels p) _ _ bad)
 line_refused front begun levels (Some k) p kind after rest bad = ap (tokens_onto front) (cond-false (may_begin begun levels p) _ _ bad)
 
 -- a token that can't stand where it does is refused
 pub token_refused : (front : List Token) (begun : Bool) (levels : List ℕ) (refusal : Option FaultKind) (why : FaultKind) (p : Position) (kind : TokenKind) (after : Position) (rest : Units)
     → may_begin begun levels p ≡ true → refusal ≡ Some why
-    → tokens_onto front (laid_out begun levels (token_onto refusal p kind after rest)) ≡ Err (place_of p, why)
+    → tokens_onto front (read_units begun levels (token_onto refusal p kind after rest)) ≡ Err (place_of p, why)
 token_refused front begun levels refusal why p kind after rest stands is =
-    ap (λ (r : Option FaultKind). tokens_onto front (laid_out begun levels (token_onto r p kind after rest))) is
+    ap (λ (r : Option FaultKind). tokens_onto front (read_units begun levels (token_onto r p kind after rest))) is
     ∙ ap (tokens_onto front) (cond-true (may_begin begun levels p) _ _ stands)
 
 -- a token, from the reader before it to the reader behind it
@@ -89,12 +90,12 @@ pub token_read : (front new : List Token) (begun begun' : Bool) (levels levels' 
     → new ≡ front ++ (marks_before begun levels p ++ token_at (token_of l cs) p p' ∷ [])
     → levels' ≡ levels_after begun levels p → brackets' ≡ brackets_behind_token l brackets → begun' ≡ true
     → (rest : Cut)
-    → tokens_onto front (laid_out begun levels (units_of p brackets (Begins (piece.Lexeme l) cs rest))) ≡ tokens_onto new (laid_out begun' levels' (units_of p' brackets' rest))
+    → tokens_onto front (read_units begun levels (units_of p brackets (Begins (piece.Lexeme l) cs rest))) ≡ tokens_onto new (read_units begun' levels' (units_of p' brackets' rest))
 token_read front new begun begun' levels levels' brackets brackets' p p' l cs size e_size e_p stands none e_new e_levels e_brackets e_begun rest =
     let after = behind (piece.Lexeme l) p (length cs) (length (encode_utf8_all cs)) in
     let same : p' ≡ after = e_p ∙ ap (behind (piece.Lexeme l) p (length cs)) e_size in
-    let taken : tokens_onto front (laid_out begun levels (units_of p brackets (Begins (piece.Lexeme l) cs rest)))
-    ≡ tokens_onto (front ++ (marks_before begun levels p ++ token_at (token_of l cs) p after ∷ [])) (laid_out true (levels_after begun levels p) (units_of after (brackets_behind_token l brackets) rest)) =
+    let taken : tokens_onto front (read_units begun levels (units_of p brackets (Begins (piece.Lexeme l) cs rest)))
+    ≡ tokens_onto (front ++ (marks_before begun levels p ++ token_at (token_of l cs) p after ∷ [])) (read_units true (levels_after begun levels p) (units_of after (brackets_behind_token l brackets) rest)) =
     token_taken front begun levels (refusal_of l cs brackets) p (token_of l cs) after (units_of after (brackets_behind_token l brackets) rest) stands none in
     let new_same : new ≡ front ++ (marks_before begun levels p ++ token_at (token_of l cs) p after ∷ []) =
     e_new ∙ ap (λ (q : Position). front ++ (marks_before begun levels p ++ token_at (token_of l cs) p q ∷ [])) same in
@@ -104,7 +105,7 @@ token_read front new begun begun' levels levels' brackets brackets' p p' l cs si
 pub refused_read : (front : List Token) (begun : Bool) (levels : List ℕ) (brackets : List Bracket) (p : Position) (l : Lexeme) (cs : List ℕ) (place : Place) (why : FaultKind)
     → place ≡ place_of p
     → (((may_begin begun levels p ≡ false) × (why ≡ BadIndent)) ⊎ ((may_begin begun levels p ≡ true) × (refusal_of l cs brackets ≡ Some why)))
-    → (rest : Cut) → tokens_onto front (laid_out begun levels (units_of p brackets (Begins (piece.Lexeme l) cs rest))) ≡ Err (place, why)
+    → (rest : Cut) → tokens_onto front (read_units begun levels (units_of p brackets (Begins (piece.Lexeme l) cs rest))) ≡ Err (place, why)
 refused_read front begun levels brackets p l cs place why at (inl bad) rest =
     line_refused front begun levels (refusal_of l cs brackets) p (token_of l cs) _ _ bad.0 ∙ cc
 refused_read front begun levels brackets p l cs place why at (inr refused) rest =
@@ -118,9 +119,9 @@ some_open b bs = grind (arith, nat_tests)
 
 -- a line break inside brackets
 inside : (front : List Token) (begun : Bool) (levels : List ℕ) (b : Bracket) (bs : List Bracket) (p : Position) (cs : List ℕ) (rest : Cut) (ends : Bool) → ends ≡ false
-    → tokens_onto front (laid_out begun levels (units_of p (b ∷ bs) (Begins piece.Break cs rest)))
+    → tokens_onto front (read_units begun levels (units_of p (b ∷ bs) (Begins piece.Break cs rest)))
     ≡ tokens_onto (front ++ newline_at (begun && ends) p)
-    (laid_out (begun && not ends) levels (units_of (behind piece.Break p (length cs) (length (encode_utf8_all cs))) (b ∷ bs) rest))
+    (read_units (begun && not ends) levels (units_of (behind piece.Break p (length cs) (length (encode_utf8_all cs))) (b ∷ bs) rest))
 inside front true levels b bs p cs rest true none = cc
 inside front false levels b bs p cs rest true none = cc
 inside front true levels b bs p cs rest false none = ap (λ (ts : List Token). tokens_onto ts _) (no_more front)
@@ -128,9 +129,9 @@ inside front false levels b bs p cs rest false none = ap (λ (ts : List Token). 
 
 -- a space, a tab or a line break
 blank_taken : (front : List Token) (begun : Bool) (levels : List ℕ) (brackets : List Bracket) (p : Position) (kind : PieceKind) (cs : List ℕ) → IsBlank kind → (rest : Cut)
-    → tokens_onto front (laid_out begun levels (units_of p brackets (Begins kind cs rest)))
+    → tokens_onto front (read_units begun levels (units_of p brackets (Begins kind cs rest)))
     ≡ tokens_onto (front ++ newline_at (begun && ends_line_at kind brackets) p)
-    (laid_out (begun && not (ends_line_at kind brackets)) levels (units_of (behind kind p (length cs) (length (encode_utf8_all cs))) brackets rest))
+    (read_units (begun && not (ends_line_at kind brackets)) levels (units_of (behind kind p (length cs) (length (encode_utf8_all cs))) brackets rest))
 blank_taken front true levels brackets p piece.Space cs h rest = ap (λ (ts : List Token). tokens_onto ts _) (no_more front)
 blank_taken front false levels brackets p piece.Space cs h rest = ap (λ (ts : List Token). tokens_onto ts _) (no_more front)
 blank_taken front true levels brackets p piece.Tab cs h rest = ap (λ (ts : List Token). tokens_onto ts _) (no_more front)
@@ -155,7 +156,7 @@ pub blank_read : (front new : List Token) (begun begun' : Bool) (levels levels' 
     → new ≡ front ++ newline_at (begun && ends_line_at kind brackets) p
     → begun' ≡ (begun && not (ends_line_at kind brackets)) → levels' ≡ levels → brackets' ≡ brackets
     → (rest : Cut)
-    → tokens_onto front (laid_out begun levels (units_of p brackets (Begins kind cs rest))) ≡ tokens_onto new (laid_out begun' levels' (units_of p' brackets' rest))
+    → tokens_onto front (read_units begun levels (units_of p brackets (Begins kind cs rest))) ≡ tokens_onto new (read_units begun' levels' (units_of p' brackets' rest))
 blank_read front new begun begun' levels levels' brackets brackets' p p' kind cs size h e_size e_p e_new e_begun e_levels e_brackets rest =
     blank_taken front begun levels brackets p kind cs h rest
     ∙ sym (read_same new _ begun' _ levels' levels brackets' brackets p' (behind kind p (length cs) (length (encode_utf8_all cs))) rest e_new e_begun e_levels e_brackets
@@ -164,25 +165,25 @@ blank_read front new begun begun' levels levels' brackets brackets' p p' kind cs
 -- the end of a text
 pub end_read : (front new : List Token) (begun : Bool) (levels : List ℕ) (brackets : List Bracket) (p : Position) (left : Cut)
     → brackets ≡ [] → left ≡ Whole → new ≡ ((front ++ newline_at begun p) ++ dedents 0 levels p) ++ mark_at token.Finish p ∷ []
-    → tokens_onto front (laid_out begun levels (units_of p brackets left)) ≡ Ok new
+    → tokens_onto front (read_units begun levels (units_of p brackets left)) ≡ Ok new
 end_read front new begun levels brackets p left none whole e_new =
     let n = newline_at begun p in
     let d = dedents 0 levels p in
     let f = mark_at token.Finish p ∷ [] in
-    ap (λ (bs : List Bracket). tokens_onto front (laid_out begun levels (units_of p bs left))) none
-    ∙ ap (λ (l : Cut). tokens_onto front (laid_out begun levels (units_of p [] l))) whole
+    ap (λ (bs : List Bracket). tokens_onto front (read_units begun levels (units_of p bs left))) none
+    ∙ ap (λ (l : Cut). tokens_onto front (read_units begun levels (units_of p [] l))) whole
     ∙ ap Ok (sym (e_new ∙ append_assoc (front ++ n) d f ∙ append_assoc front n (d ++ f) ∙ ap (λ (t : List Token). front ++ t) (sym (append_assoc n d f))))
 
 -- a bracket is open at the end
 pub open_at_end : (front : List Token) (begun : Bool) (levels : List ℕ) (brackets : List Bracket) (p : Position) (left : Cut)
-    → (length brackets == 0) ≡ false → left ≡ Whole → tokens_onto front (laid_out begun levels (units_of p brackets left)) ≡ Err (place_of p, Unclosed)
+    → (length brackets == 0) ≡ false → left ≡ Whole → tokens_onto front (read_units begun levels (units_of p brackets left)) ≡ Err (place_of p, Unclosed)
 open_at_end front begun levels [] p left some whole = cc
-open_at_end front begun levels (b ∷ bs) p left some whole = ap (λ (l : Cut). tokens_onto front (laid_out begun levels (units_of p (b ∷ bs) l))) whole
+open_at_end front begun levels (b ∷ bs) p left some whole = ap (λ (l : Cut). tokens_onto front (read_units begun levels (units_of p (b ∷ bs) l))) whole
 
 -- no piece begins
 pub unread_read : (front : List Token) (begun : Bool) (levels : List ℕ) (brackets : List Bracket) (p : Position) (left : Cut) (cs : List ℕ)
-    → left ≡ Unread cs → tokens_onto front (laid_out begun levels (units_of p brackets left)) ≡ Err (place_of p, fault_at cs)
-unread_read front begun levels brackets p left cs e = ap (λ (l : Cut). tokens_onto front (laid_out begun levels (units_of p brackets l))) e
+    → left ≡ Unread cs → tokens_onto front (read_units begun levels (units_of p brackets left)) ≡ Err (place_of p, fault_at cs)
+unread_read front begun levels brackets p left cs e = ap (λ (l : Cut). tokens_onto front (read_units begun levels (units_of p brackets l))) e
 
 -- a comment, one piece after another
 pub comment_step : (c : ℕ) (cs : List ℕ) (more : Cut)
@@ -220,3 +221,50 @@ comment_split text c cs front after q more e eq ef ea =
 pub OnFault-map : (f : LexFault) (P Q : Place → FaultKind → Type 0) → ((place : Place) (why : FaultKind) → P place why → Q place why) → OnFault f P → OnFault f Q
 OnFault-map (At place why) P Q step h = step place why h
 OnFault-map OutOfMemory P Q step h = tt
+
+-- no tokens in front
+tokens_onto-none : (l : Lexed) → tokens_onto [] l ≡ l
+tokens_onto-none (Ok others) = refl
+tokens_onto-none (Err fault) = refl
+
+-- a line that has begun is read on with its tokens in front, where its first token is aligned
+abbrev BegunReads : List ℕ → Begun → Units → Type 0
+BegunReads levels line units =
+    laid_out levels (lines_from (Some line) units)
+    ≡ cond (is_aligned line.0.reach levels) (tokens_onto (line_marks levels line.0 ++ line.1) (read_units true (levels_behind line.0.reach levels) units)) (Err (place_of line.0, BadIndent))
+
+mutual
+  -- the layout by lines is what is read one token after another
+  by_lines : (levels : List ℕ) (units : Units) → laid_out levels (lines_from None units) ≡ read_units false levels units
+  by_lines levels (Finished p) = refl
+  by_lines levels (Stopped p kind) = refl
+  by_lines levels (Refused p kind) = refl
+  by_lines levels (Ended p rest) = by_lines levels rest ∙ sym (tokens_onto-none (read_units false levels rest))
+  by_lines levels (Spelled p kind after rest) = line_reads levels (p, token_at kind p after ∷ []) rest
+
+  line_reads : (levels : List ℕ) (line : Begun) (units : Units) → BegunReads levels line units
+  line_reads levels line (Finished p) =
+      let m = line_marks levels line.0 in
+      let n = mark_at token.Newline p ∷ [] in
+      let d = dedents 0 (levels_behind line.0.reach levels) p in
+      let f = mark_at token.Finish p ∷ [] in
+      ap (λ (ts : List Token). cond (is_aligned line.0.reach levels) (Ok ts) (Err (place_of line.0, BadIndent)))
+      (append_assoc (m ++ line.1) n (d ++ f) ∙ ap (λ (ts : List Token). (m ++ line.1) ++ ts) (sym (append_assoc n d f)))
+  line_reads levels line (Stopped p kind) = refl
+  line_reads levels line (Refused p kind) = refl
+  line_reads levels line (Ended p rest) =
+      let m = line_marks levels line.0 in
+      let n = mark_at token.Newline p ∷ [] in
+      ap (λ (l : Lexed). cond (is_aligned line.0.reach levels) l (Err (place_of line.0, BadIndent)))
+      (ap (tokens_onto (m ++ line.1 ++ n)) (by_lines (levels_behind line.0.reach levels) rest) ∙ sym (tokens_onto-append (m ++ line.1) n (read_units false (levels_behind line.0.reach levels) rest)))
+  line_reads levels line (Spelled p kind after rest) =
+      let m = line_marks levels line.0 in
+      let t = token_at kind p after ∷ [] in
+      line_reads levels (line.0, line.1 ++ t) rest
+      ∙ ap (λ (l : Lexed). cond (is_aligned line.0.reach levels) l (Err (place_of line.0, BadIndent)))
+      (ap (λ (ts : List Token). tokens_onto ts (read_units true (levels_behind line.0.reach levels) rest)) (sym (append_assoc m line.1 t))
+      ∙ sym (tokens_onto-append (m ++ line.1) t (read_units true (levels_behind line.0.reach levels) rest)))
+
+-- what a text is read as, by its lines
+pub lexed-reads : (text : List ℕ) → lexed text ≡ read_through text
+lexed-reads text = by_lines [] (units_of (front_of text) [] (cut (after_mark text)))

@@ -3,7 +3,7 @@ use Rattle.std.proofs.Common.{◌≡◌, ℕ, zero, suc, ◌+◌, ◌-◌, ◌<�
 use Rattle.std.specs.Prelude.{⊤}
 use Rattle.std.specs.List.{list_all, prefix_len}
 use Rattle.std.specs.Option.{option_map}
-use Rattle.std.proofs.lemmas.Bool.{cases_Bool, cond-true, cond-false}
+use Rattle.std.proofs.lemmas.Bool.{cases_Bool, cond-true, cond-false, eqb-true}
 use Rattle.std.proofs.lemmas.List.{length-take}
 use Rattle.std.proofs.lemmas.List.Sums.{prefix_len-le-length}
 use Rattle.uvl_base.specs.Identifier.{begins_identifier, continues_identifier}
@@ -21,6 +21,7 @@ use Rattle.uvl_lexer.specs.Layout.{inner}
 use Rattle.uvl_lexer.specs.Pieces.{Piece, piece_at, piece_behind, opening_of, opening_of_other, slash_at, block_at, quoted_at, text_at, point_at, number_at, identifier_at, symbol_at, through_close, line_len}
 use Rattle.uvl_lexer.specs.Spellings.{IsPiece, IsSpelling}
 use Rattle.uvl_lexer.proofs.Names.{identifier-is_name, front_all}
+use Rattle.uvl_lexer.proofs.Numbers.{SpellsNumber, number_bytes, point_digits, number_digits}
 
 -- the piece has its spelling in front of some characters
 abbrev pub Spells : List ℕ → Piece → Type 0
@@ -115,13 +116,16 @@ slash_spells cs (d ∷ ds) p e =
           ]
     ]
 
-point_spells : (cs bs : List ℕ) → Spells cs (point_at bs)
-point_spells cs bs =
+point_spells : (c : ℕ) (bs : List ℕ) → c ≡ 46 → Spells (c ∷ bs) (point_at bs)
+point_spells c bs is =
+    let cs = c ∷ bs in
     elim (cases_Bool (begins_with 46 bs)) [
       | inl dots ↦ subst (λ (q : Piece). Spells cs q) (sym (cond-true (begins_with 46 bs) _ _ dots)) tt
       | inr other ↦ elim (cases_Bool (prefix_len (is_of_class Digit) bs == 0)) [
         | inl dot ↦ subst (λ (q : Piece). Spells cs q) (sym (cond-false (begins_with 46 bs) _ _ other ∙ cond-true (prefix_len (is_of_class Digit) bs == 0) _ _ dot)) tt
-        | inr digits ↦ subst (λ (q : Piece). Spells cs q) (sym (cond-false (begins_with 46 bs) _ _ other ∙ cond-false (prefix_len (is_of_class Digit) bs == 0) _ _ digits)) tt
+        | inr digits ↦
+            subst (λ (q : Piece). Spells cs q) (sym (cond-false (begins_with 46 bs) _ _ other ∙ cond-false (prefix_len (is_of_class Digit) bs == 0) _ _ digits))
+            (number_bytes _ (subst (λ (t : List ℕ). SpellsNumber (take (prefix_len (is_of_class Digit) bs + 1) t)) (sym (ap (λ (x : ℕ). x ∷ bs) is)) (point_digits bs digits)))
       ]
     ]
 
@@ -137,41 +141,64 @@ break_spells cs bs p e =
     ]
 
 -- each kind of piece that a character may begin
-behind_spells : (o : Opening) (c : ℕ) (cs : List ℕ) (p : Piece) → (o ≡ opens.Letter → begins_identifier c ≡ true) → piece_behind o c cs ≡ Some p → Spells (c ∷ cs) p
-behind_spells opens.Space c cs p letter e = by_piece (c ∷ cs) p (piece.Space, 1) e tt
-behind_spells opens.Tab c cs p letter e = by_piece (c ∷ cs) p (piece.Tab, 1) e tt
-behind_spells opens.LineFeed c cs p letter e = by_piece (c ∷ cs) p (piece.Break, 1) e tt
-behind_spells opens.CarriageReturn c cs p letter e = break_spells (c ∷ cs) cs p e
-behind_spells opens.Slash c cs p letter e = slash_spells (c ∷ cs) cs p e
-behind_spells opens.Quote c cs p letter e = quoted_spells c cs p e
-behind_spells opens.Apostrophe c cs p letter e = text_spells c cs p e
-behind_spells opens.Point c cs p letter e = by_piece (c ∷ cs) p (point_at cs) e (point_spells (c ∷ cs) cs)
-behind_spells opens.Digit c cs p letter e = by_piece (c ∷ cs) p (number_at cs) e tt
-behind_spells opens.Letter c cs p letter e = by_piece (c ∷ cs) p (identifier_at cs) e (identifier-is_name c cs (letter refl))
-behind_spells opens.Sign c cs p letter e = symbol_spells (c ∷ cs) (symbol_at c cs) p e
+behind_spells : (o : Opening) (c : ℕ) (cs : List ℕ) (p : Piece) → (o ≡ opens.Letter → begins_identifier c ≡ true) → (o ≡ opens.Digit → is_ascii_digit c ≡ true) → (o ≡ opens.Point → c ≡ 46) → piece_behind o c cs ≡ Some p → Spells (c ∷ cs) p
+behind_spells opens.Space c cs p letter digit point e = by_piece (c ∷ cs) p (piece.Space, 1) e tt
+behind_spells opens.Tab c cs p letter digit point e = by_piece (c ∷ cs) p (piece.Tab, 1) e tt
+behind_spells opens.LineFeed c cs p letter digit point e = by_piece (c ∷ cs) p (piece.Break, 1) e tt
+behind_spells opens.CarriageReturn c cs p letter digit point e = break_spells (c ∷ cs) cs p e
+behind_spells opens.Slash c cs p letter digit point e = slash_spells (c ∷ cs) cs p e
+behind_spells opens.Quote c cs p letter digit point e = quoted_spells c cs p e
+behind_spells opens.Apostrophe c cs p letter digit point e = text_spells c cs p e
+behind_spells opens.Point c cs p letter digit point e = by_piece (c ∷ cs) p (point_at cs) e (point_spells c cs (point refl))
+behind_spells opens.Digit c cs p letter digit point e = by_piece (c ∷ cs) p (number_at cs) e (number_bytes _ (number_digits c cs (digit refl)))
+behind_spells opens.Letter c cs p letter digit point e = by_piece (c ∷ cs) p (identifier_at cs) e (identifier-is_name c cs (letter refl))
+behind_spells opens.Sign c cs p letter digit point e = symbol_spells (c ∷ cs) (symbol_at c cs) p e
 
-other_than : (b : Bool) (x y : Opening) → (x ≡ opens.Letter → ⊥) → cond b x y ≡ opens.Letter → y ≡ opens.Letter
-other_than true x y no_letter e = absurd (no_letter e)
-other_than false x y no_letter e = e
+other_than : (o : Opening) (b : Bool) (x y : Opening) → (x ≡ o → ⊥) → cond b x y ≡ o → y ≡ o
+other_than o true x y different e = absurd (different e)
+other_than o false x y different e = e
+
+-- the rest of the characters, where one isn't one of the first seven
+other_characters : (o : Opening) (c : ℕ) → (opens.Space ≡ o → ⊥) → (opens.Tab ≡ o → ⊥) → (opens.LineFeed ≡ o → ⊥) → (opens.CarriageReturn ≡ o → ⊥) → (opens.Slash ≡ o → ⊥) → (opens.Quote ≡ o → ⊥) → (opens.Apostrophe ≡ o → ⊥)
+    → opening_of c ≡ o → cond (c == 46) opens.Point (opening_of_other c) ≡ o
+other_characters o c n1 n2 n3 n4 n5 n6 n7 e =
+    other_than o (c == 39) opens.Apostrophe _ n7 (other_than o (c == 34) opens.Quote _ n6 (other_than o (c == 47) opens.Slash _ n5
+    (other_than o (c == 13) opens.CarriageReturn _ n4 (other_than o (c == 10) opens.LineFeed _ n3 (other_than o (c == 9) opens.Tab _ n2 (other_than o (c == 32) opens.Space _ n1 e))))))
 
 letter_last : (b : Bool) → cond b opens.Letter opens.Sign ≡ opens.Letter → b ≡ true
 letter_last true e = refl
 letter_last false e = cc
 
+digit_last : (a b : Bool) → cond a opens.Digit (cond b opens.Letter opens.Sign) ≡ opens.Digit → a ≡ true
+digit_last true b e = refl
+digit_last false true e = cc
+digit_last false false e = cc
+
+point_last : (p a b : Bool) → cond p opens.Point (cond a opens.Digit (cond b opens.Letter opens.Sign)) ≡ opens.Point → p ≡ true
+point_last true a b e = refl
+point_last false true b e = cc
+point_last false false true e = cc
+point_last false false false e = cc
+
 -- a character that may begin an identifier alone does
 letter_begins : (c : ℕ) → opening_of c ≡ opens.Letter → begins_identifier c ≡ true
 letter_begins c e =
-    let e1 = other_than (c == 32) opens.Space _ (λ h. cc) e in
-    let e2 = other_than (c == 9) opens.Tab _ (λ h. cc) e1 in
-    let e3 = other_than (c == 10) opens.LineFeed _ (λ h. cc) e2 in
-    let e4 = other_than (c == 13) opens.CarriageReturn _ (λ h. cc) e3 in
-    let e5 = other_than (c == 47) opens.Slash _ (λ h. cc) e4 in
-    let e6 = other_than (c == 34) opens.Quote _ (λ h. cc) e5 in
-    let e7 = other_than (c == 39) opens.Apostrophe _ (λ h. cc) e6 in
-    let e8 = other_than (c == 46) opens.Point _ (λ h. cc) e7 in
-    letter_last (begins_identifier c) (other_than (is_ascii_digit c) opens.Digit _ (λ h. cc) e8)
+    letter_last (begins_identifier c) (other_than opens.Letter (is_ascii_digit c) opens.Digit _ (λ h. cc) (other_than opens.Letter (c == 46) opens.Point _ (λ h. cc)
+    (other_characters opens.Letter c (λ h. cc) (λ h. cc) (λ h. cc) (λ h. cc) (λ h. cc) (λ h. cc) (λ h. cc) e)))
+
+-- a character that may begin a number alone is a digit
+digit_begins : (c : ℕ) → opening_of c ≡ opens.Digit → is_ascii_digit c ≡ true
+digit_begins c e =
+    digit_last (is_ascii_digit c) (begins_identifier c) (other_than opens.Digit (c == 46) opens.Point _ (λ h. cc)
+    (other_characters opens.Digit c (λ h. cc) (λ h. cc) (λ h. cc) (λ h. cc) (λ h. cc) (λ h. cc) (λ h. cc) e))
+
+-- a character that opens what begins with a point is one
+point_begins : (c : ℕ) → opening_of c ≡ opens.Point → c ≡ 46
+point_begins c e =
+    eqb-true c 46 (point_last (c == 46) (is_ascii_digit c) (begins_identifier c)
+    (other_characters opens.Point c (λ h. cc) (λ h. cc) (λ h. cc) (λ h. cc) (λ h. cc) (λ h. cc) (λ h. cc) e))
 
 -- the spelling of the first piece of some characters
 pub piece_spells : (cs : List ℕ) (p : Piece) → piece_at cs ≡ Some p → Spells cs p
 piece_spells [] p e = absurd (let clash : None ≡ Some p = e in cc)
-piece_spells (c ∷ cs) p e = behind_spells (opening_of c) c cs p (letter_begins c) e
+piece_spells (c ∷ cs) p e = behind_spells (opening_of c) c cs p (letter_begins c) (digit_begins c) (point_begins c) e

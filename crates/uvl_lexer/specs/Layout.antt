@@ -4,7 +4,7 @@ use Rattle.std.specs.List.{list_any}
 use Rattle.uvl_base.specs.declared.place.Place.{Place}
 use Rattle.uvl_base.specs.declared.fault.FaultKind.{FaultKind}
 use Rattle.uvl_base.specs.declared.fault.FaultKind.TheVariants.{BadCharacter, BadIndent, Unclosed, NumberTooWide}
-use Rattle.uvl_base.specs.Number.{millionths_of, is_number, is_too_wide, is_point}
+use Rattle.uvl_base.specs.Number.{millionths_of, is_too_wide, is_point}
 use Rattle.uvl_lexer.specs.declared.token.Token.{Token}
 use Rattle.uvl_lexer.specs.declared.token.TokenKind.{TokenKind}
 use Rattle.uvl_lexer.specs.declared.token.TokenKind.TheVariants as token
@@ -44,7 +44,7 @@ token_of (spells.Symbol s) cs = token.Symbol s
 
 -- a number is refused where it is too wide
 abbrev pub refusal_of_number : List ℕ → Option FaultKind
-refusal_of_number bytes = if is_number bytes && not (is_too_wide bytes) then None else Some NumberTooWide
+refusal_of_number bytes = if is_too_wide bytes then Some NumberTooWide else None
 
 -- a closing bracket is refused where it doesn't close the innermost open one
 abbrev pub refusal_of_symbol : Symbol → List Bracket → Option FaultKind
@@ -127,7 +127,7 @@ units_of position brackets (Begins kind cs rest) =
     unit_onto kind cs brackets position (behind kind position (length cs) (length (encode_utf8_all cs)))
     (units_of (behind kind position (length cs) (length (encode_utf8_all cs))) (brackets_behind kind brackets) rest)
 
--- ---- layout marks
+-- ---- tokens and marks
 
 -- the tokens of a text, or the place at which it can't be read on, and why
 abbrev pub Lexed : Type 0
@@ -150,35 +150,61 @@ token_at kind p after = record { kind = kind; place = place_of p; from = p.byte;
 abbrev pub dedents : ℕ → List ℕ → Position → List Token
 dedents indentation levels p = replicate (closed_by indentation levels) (mark_at token.Dedent p)
 
--- the marks in front of the first token of a line
-abbrev pub marks_before : Bool → List ℕ → Position → List Token
-marks_before true levels p = []
-marks_before false levels p = if opens_level p.reach levels then mark_at token.Indent p ∷ [] else dedents p.reach levels p
+-- the marks in front of the first token of a line: Indent where it opens a level, else a Dedent for each that it closes
+abbrev pub line_marks : List ℕ → Position → List Token
+line_marks levels p = if opens_level p.reach levels then mark_at token.Indent p ∷ [] else dedents p.reach levels p
 
--- each line with a token ends with Newline
-abbrev pub newline_at : Bool → Position → List Token
-newline_at true p = mark_at token.Newline p ∷ []
-newline_at false p = []
+-- ---- lines
 
--- whether a token may stand where it does: the first of a line meets an open level or opens one
-abbrev pub may_begin : Bool → List ℕ → Position → Bool
-may_begin begun levels p = begun || is_aligned p.reach levels
+-- The lines of a text that have a token, and how it ends: at its end, or where it can't be read on. A line has the
+-- position of its first token, its tokens, and the position of its end; the last may break off.
+pub data Lines : Type 0 where
+  NoMore : (end : Position) → Lines
+  Unreadable : (position : Position) (kind : FaultKind) → Lines
+  RefusedFirst : (position : Position) (kind : FaultKind) → Lines
+  Line : (first : Position) (tokens : List Token) (end : Position) (rest : Lines) → Lines
+  BrokenOff : (first : Position) (position : Position) (kind : FaultKind) → Lines
 
--- the levels behind a token
-abbrev pub levels_after : Bool → List ℕ → Position → List ℕ
-levels_after true levels p = levels
-levels_after false levels p = levels_behind p.reach levels
+-- a line that has begun: the position of its first token, and its tokens so far
+abbrev pub Begun : Type 0
+Begun = Position × List Token
 
--- The tokens of units with their layout marks, where these levels are open, and the line has begun or not.
-abbrev pub laid_out : Bool → List ℕ → Units → Lexed
-laid_out begun levels (Finished p) = Ok (newline_at begun p ++ dedents 0 levels p ++ mark_at token.Finish p ∷ [])
-laid_out begun levels (Stopped p kind) = Err (place_of p, kind)
-laid_out begun levels (Refused p kind) = if may_begin begun levels p then Err (place_of p, kind) else Err (place_of p, BadIndent)
-laid_out begun levels (Ended p rest) = tokens_onto (newline_at begun p) (laid_out false levels rest)
-laid_out begun levels (Spelled p kind after rest) =
-    if may_begin begun levels p
-    then tokens_onto (marks_before begun levels p ++ token_at kind p after ∷ []) (laid_out true (levels_after begun levels p) rest)
-    else Err (place_of p, BadIndent)
+-- the end of a line, where one has begun
+abbrev pub line_onto : Option Begun → Position → Lines → Lines
+line_onto None end rest = rest
+line_onto (Some line) end rest = Line line.0 line.1 end rest
+
+-- a line that breaks off, where one has begun
+abbrev pub broken_off : Option Begun → Position → FaultKind → Lines → Lines
+broken_off None position kind other = other
+broken_off (Some line) position kind other = BrokenOff line.0 position kind
+
+-- a line with one more token
+abbrev pub with_token : Option Begun → Position → Token → Option Begun
+with_token None position token = Some (position, token ∷ [])
+with_token (Some line) position token = Some (line.0, line.1 ++ token ∷ [])
+
+-- the lines of units, of which the first has begun or not
+abbrev pub lines_from : Option Begun → Units → Lines
+lines_from begun (Finished p) = line_onto begun p (NoMore p)
+lines_from begun (Stopped p kind) = broken_off begun p kind (Unreadable p kind)
+lines_from begun (Refused p kind) = broken_off begun p kind (RefusedFirst p kind)
+lines_from begun (Ended p rest) = line_onto begun p (lines_from None rest)
+lines_from begun (Spelled p kind after rest) = lines_from (with_token begun p (token_at kind p after)) rest
+
+-- ---- layout marks
+
+-- The tokens of lines with their layout marks, where these levels are open. The first token of a line meets an open
+-- level or opens one; each line ends with Newline; at the end stand a Dedent for each level above 0, and Finish.
+abbrev pub laid_out : List ℕ → Lines → Lexed
+laid_out levels (NoMore p) = Ok (dedents 0 levels p ++ mark_at token.Finish p ∷ [])
+laid_out levels (Unreadable p kind) = Err (place_of p, kind)
+laid_out levels (RefusedFirst p kind) = if is_aligned p.reach levels then Err (place_of p, kind) else Err (place_of p, BadIndent)
+laid_out levels (Line first tokens end rest) =
+    if is_aligned first.reach levels
+    then tokens_onto (line_marks levels first ++ tokens ++ mark_at token.Newline end ∷ []) (laid_out (levels_behind first.reach levels) rest)
+    else Err (place_of first, BadIndent)
+laid_out levels (BrokenOff first p kind) = if is_aligned first.reach levels then Err (place_of p, kind) else Err (place_of first, BadIndent)
 
 -- ---- the whole text
 
@@ -193,7 +219,7 @@ front_of cs = if begins_with 65279 cs then behind_mark start else start
 
 -- what a text is read as
 abbrev pub lexed : List ℕ → Lexed
-lexed text = laid_out false [] (units_of (front_of text) [] (cut (after_mark text)))
+lexed text = laid_out [] (lines_from None (units_of (front_of text) [] (cut (after_mark text))))
 
 -- the tokens of a text are these
 abbrev pub Tokens : List ℕ → List Token → Type 0

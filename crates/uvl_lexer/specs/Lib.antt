@@ -8,4 +8,5 @@ pub mod Pieces
 pub mod Positions
 pub mod Reading
 pub mod Spellings
+pub mod Turns
 pub mod Words

@@ -7,12 +7,13 @@ use Rattle.uvl_lexer.specs.declared.fault.LexFault.{LexFault}
 use Rattle.uvl_lexer.specs.declared.fault.LexFault.TheVariants.{At, OutOfMemory}
 use Rattle.uvl_lexer.specs.declared.reader.Reader.{Reader}
 use Rattle.uvl_lexer.specs.Cut.{Cut}
-use Rattle.uvl_lexer.specs.Layout.{Lexed, tokens_onto, laid_out, units_of, may_begin}
+use Rattle.uvl_lexer.specs.Layout.{Lexed, tokens_onto, units_of}
+use Rattle.uvl_lexer.specs.Turns.{read_units, may_begin}
 use Rattle.uvl_lexer.specs.Positions.{place_of}
 
 -- what a text is read as, where a reader has read what stands in front of a cut
 abbrev pub read_on : Reader → Cut → Lexed
-read_on r rest = tokens_onto r.tokens.items (laid_out r.begun r.levels (units_of r.position r.brackets rest))
+read_on r rest = tokens_onto r.tokens.items (read_units r.begun r.levels (units_of r.position r.brackets rest))
 
 -- what holds of the place and the kind of a fault; want of memory has neither
 abbrev pub OnFault : LexFault → (Place → FaultKind → Type 0) → Type 0

@@ -1,5 +1,5 @@
 -- What the spelling of a token is, by the kind of the token.
-use Rattle.std.specs.Prelude.{◌≡◌, ◌≤◌, ℕ, true, not, ◌&&◌, ⊤, List, length, IsTrue, encode_utf8_all}
+use Rattle.std.specs.Prelude.{◌≡◌, ◌≤◌, ℕ, false, ⊤, List, length, IsTrue, encode_utf8_all}
 use Rattle.uvl_base.specs.Name.{is_name}
 use Rattle.uvl_base.specs.Number.{is_number, is_too_wide}
 use Rattle.uvl_lexer.specs.declared.piece.PieceKind.{PieceKind}
@@ -12,7 +12,7 @@ use Rattle.uvl_lexer.specs.Layout.{inner}
 abbrev pub IsSpelling : Lexeme → List ℕ → Type 0
 IsSpelling spells.Identifier cs = IsTrue (is_name cs)
 IsSpelling spells.Quoted cs = IsTrue (is_name (inner cs)) × (2 ≤ length cs)
-IsSpelling spells.Number cs = ⊤
+IsSpelling spells.Number cs = IsTrue (is_number (encode_utf8_all cs))
 IsSpelling spells.Text cs = 2 ≤ length cs
 IsSpelling (spells.Symbol s) cs = ⊤
 
@@ -23,7 +23,7 @@ IsPiece _ cs = ⊤
 
 -- a number is read where it isn't too wide
 abbrev pub IsReadable : Lexeme → List ℕ → Type 0
-IsReadable spells.Number cs = (is_number (encode_utf8_all cs) && not (is_too_wide (encode_utf8_all cs))) ≡ true
+IsReadable spells.Number cs = is_too_wide (encode_utf8_all cs) ≡ false
 IsReadable _ cs = ⊤
 
 -- a piece that spells no token

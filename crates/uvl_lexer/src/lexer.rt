@@ -1,8 +1,9 @@
 //! The lexer.
-ghost use Rattle.std.specs.Prelude.{◌≡◌, ◌+◌, ◌≤◌, Ok, IfOk, IfErr, length, chars};
+ghost use Rattle.std.specs.Prelude.{◌≡◌, ◌+◌, ◌≤◌, Ok, Err, IfOk, IfErr, length, chars};
 ghost use Rattle.uvl_lexer.specs.Layout.{Tokens, Stops, after_mark, front_of};
 ghost use Rattle.uvl_lexer.specs.Positions.{IsSound};
 ghost use Rattle.uvl_lexer.specs.Reading.{OnFault};
+ghost use Rattle.uvl_lexer.specs.Turns.{read_through};
 
 use crate::characters::{split_at_count, split_first};
 use crate::fault::LexFault;
@@ -21,6 +22,15 @@ pub fn lex(alloc: Global, text: &str) -> Result<Vec<Token>, LexFault>
     requires { length text.now ≤ 8388608 }
     ensures tokens { IfOk result (λ tokens. Tokens (chars text.now) tokens.items) }
     ensures stops { IfErr result (λ fault. OnFault fault (λ place kind. Stops (chars text.now) place kind)) }
+{
+    read_text(alloc, text)
+}
+
+/// Reads a text one piece after another.
+fn read_text(alloc: Global, text: &str) -> Result<Vec<Token>, LexFault>
+    requires { length text.now ≤ 8388608 }
+    ensures tokens { IfOk result (λ tokens. read_through (chars text.now) ≡ Ok tokens.items) }
+    ensures stops { IfErr result (λ fault. OnFault fault (λ place kind. read_through (chars text.now) ≡ Err (place, kind))) }
 {
     let (front, behind) = split_mark(text);
     let mut reader = Reader::new(alloc, front);

@@ -1,5 +1,6 @@
 //! The reader of a text: the tokens so far, and what the next ones depend on.
-ghost use Rattle.std.specs.Prelude.{◌≡◌, ◌+◌, ◌≤◌, [], ◌∷◌, ◌++◌, ◌&&◌, not, true, false, IfErr, OnOk, None, length, chars};
+ghost use Rattle.std.specs.Prelude.{◌≡◌, ◌+◌, ◌≤◌, [], ◌∷◌, ◌++◌, ◌&&◌, not, true, false, IfErr, OnOk, None, IsTrue, length, chars};
+ghost use Rattle.uvl_base.specs.Number.{is_number};
 ghost use Rattle.uvl_lexer.specs.Cut.{Cut, Begins, cut, comment_onto, comment_piece, piece_onto};
 ghost use Rattle.uvl_lexer.specs.Layout as spec;
 ghost use Rattle.uvl_lexer.specs.Layout.{is_break, ends_line_at};
@@ -8,6 +9,7 @@ ghost use Rattle.uvl_lexer.specs.Pieces.{piece_at};
 ghost use Rattle.uvl_lexer.specs.Positions.{place_of, IsSound};
 ghost use Rattle.uvl_lexer.specs.Reading.{read_on, OnFault, IsRefused};
 ghost use Rattle.uvl_lexer.specs.Spellings.{IsSpelling, IsPiece, IsBlank};
+ghost use Rattle.uvl_lexer.specs.Turns.{may_begin, marks_before, levels_after, newline_at};
 
 use crate::brackets::{Brackets, Role, role_of};
 use crate::characters::{begins_with, split_at_count, split_first};
@@ -15,7 +17,7 @@ use crate::fault::LexFault;
 use crate::levels::Levels;
 use crate::piece::{Lexeme, PieceKind};
 use crate::position::Position;
-use crate::spelling::{is_readable, token_of};
+use crate::spelling::{is_too_wide, token_of};
 use crate::token::{Symbol, Token, TokenKind};
 use std::alloc::Global;
 use uvl_base::FaultKind;
@@ -93,9 +95,9 @@ impl Reader {
 
     /// Puts the marks in front of a token, where it is the first of its line.
     fn begin_line(&mut self) -> Result<(), LexFault>
-        ensures aligned { OnOk result (spec.may_begin self.old.begun self.old.levels self.old.position ≡ true) }
-        ensures tokens { OnOk result (self.new.tokens.items ≡ self.old.tokens.items ++ spec.marks_before self.old.begun self.old.levels self.old.position) }
-        ensures levels { OnOk result (self.new.levels ≡ spec.levels_after self.old.begun self.old.levels self.old.position) }
+        ensures aligned { OnOk result (may_begin self.old.begun self.old.levels self.old.position ≡ true) }
+        ensures tokens { OnOk result (self.new.tokens.items ≡ self.old.tokens.items ++ marks_before self.old.begun self.old.levels self.old.position) }
+        ensures levels { OnOk result (self.new.levels ≡ levels_after self.old.begun self.old.levels self.old.position) }
         ensures begun { OnOk result (self.new.begun ≡ true) }
         ensures others { self.new ≡ record self.old { tokens = self.new.tokens; levels = self.new.levels; begun = self.new.begun } }
         ensures refused { IfErr result (λ fault. OnFault fault (λ place kind. IsRefused self.old None place kind)) }
@@ -129,7 +131,7 @@ impl Reader {
 
     /// Ends the line at a line break outside brackets.
     fn end_line(&mut self) -> Result<(), LexFault>
-        ensures tokens { OnOk result (self.new.tokens.items ≡ self.old.tokens.items ++ spec.newline_at self.old.begun self.old.position) }
+        ensures tokens { OnOk result (self.new.tokens.items ≡ self.old.tokens.items ++ newline_at self.old.begun self.old.position) }
         ensures begun { OnOk result (self.new.begun ≡ false) }
         ensures others { self.new ≡ record self.old { tokens = self.new.tokens; begun = self.new.begun } }
         ensures memory { IfErr result (λ fault. fault ≡ LexFault.OutOfMemory) }
@@ -143,7 +145,7 @@ impl Reader {
 
     /// Ends the line where the piece is a line break outside brackets.
     fn end_line_at(&mut self, kind: PieceKind) -> Result<(), LexFault>
-        ensures tokens { OnOk result (self.new.tokens.items ≡ self.old.tokens.items ++ spec.newline_at (self.old.begun && ends_line_at kind self.old.brackets) self.old.position) }
+        ensures tokens { OnOk result (self.new.tokens.items ≡ self.old.tokens.items ++ newline_at (self.old.begun && ends_line_at kind self.old.brackets) self.old.position) }
         ensures begun { OnOk result (self.new.begun ≡ (self.old.begun && not (ends_line_at kind self.old.brackets))) }
         ensures others { self.new ≡ record self.old { tokens = self.new.tokens; begun = self.new.begun } }
         ensures memory { IfErr result (λ fault. fault ≡ LexFault.OutOfMemory) }
@@ -157,6 +159,7 @@ impl Reader {
 
     /// Why a token is refused where it stands.
     fn refusal_of(&self, lexeme: Lexeme, spelling: &str) -> Option<FaultKind>
+        requires { IsSpelling lexeme (chars spelling.now) }
         ensures { result ≡ spec.refusal_of lexeme (chars spelling.now) self.now.brackets }
     {
         match lexeme {
@@ -208,9 +211,9 @@ impl Reader {
     ) -> Result<(), LexFault>
         requires count { count ≡ length (chars spelling.now) }
         requires spelled { IsSpelling lexeme (chars spelling.now) }
-        ensures stands { OnOk result ((spec.may_begin self.old.begun self.old.levels self.old.position ≡ true) × (spec.refusal_of lexeme (chars spelling.now) self.old.brackets ≡ None)) }
-        ensures tokens { OnOk result (self.new.tokens.items ≡ self.old.tokens.items ++ (spec.marks_before self.old.begun self.old.levels self.old.position ++ spec.token_at (spec.token_of lexeme (chars spelling.now)) self.old.position after ∷ [])) }
-        ensures levels { OnOk result (self.new.levels ≡ spec.levels_after self.old.begun self.old.levels self.old.position) }
+        ensures stands { OnOk result ((may_begin self.old.begun self.old.levels self.old.position ≡ true) × (spec.refusal_of lexeme (chars spelling.now) self.old.brackets ≡ None)) }
+        ensures tokens { OnOk result (self.new.tokens.items ≡ self.old.tokens.items ++ (marks_before self.old.begun self.old.levels self.old.position ++ spec.token_at (spec.token_of lexeme (chars spelling.now)) self.old.position after ∷ [])) }
+        ensures levels { OnOk result (self.new.levels ≡ levels_after self.old.begun self.old.levels self.old.position) }
         ensures brackets { OnOk result (self.new.brackets ≡ spec.brackets_behind_token lexeme self.old.brackets) }
         ensures begun { OnOk result (self.new.begun ≡ true) }
         ensures position { self.new.position ≡ self.old.position }
@@ -396,11 +399,12 @@ fn is_break(kind: PieceKind) -> bool
 }
 
 fn refusal_of_number(spelling: &str) -> Option<FaultKind>
+    requires { IsTrue (is_number spelling.now) }
     ensures { result ≡ spec.refusal_of_number spelling.now }
 {
-    if is_readable(spelling) {
-        None
-    } else {
+    if is_too_wide(spelling) {
         Some(FaultKind::NumberTooWide)
+    } else {
+        None
     }
 }

@@ -1,5 +1,5 @@
 //! What a spelling says.
-ghost use Rattle.std.specs.Prelude.{◌≡◌, ◌&&◌, ◌≤◌, true, IfErr, IfOk, IsTrue, length, chars, encode_utf8_all, not};
+ghost use Rattle.std.specs.Prelude.{◌≡◌, ◌&&◌, ◌≤◌, true, IfErr, IfOk, IsTrue, false, length, chars, encode_utf8_all, not};
 ghost use Rattle.std.specs.List.{list_any};
 ghost use Rattle.uvl_base.specs.Name.{is_name};
 ghost use Rattle.uvl_base.specs.Number.{is_number, is_too_wide, is_point, millionths_of};
@@ -14,13 +14,18 @@ use crate::piece::Lexeme;
 use crate::token::TokenKind;
 use crate::word::word_of;
 use std::alloc::Global;
-use uvl_base::{Fixed, Name, NameFault, Text};
+use uvl_base::{Fixed, Name, NameFault, NumberFault, Text};
 
-/// Whether a spelling is a number that isn't too wide.
-pub(crate) fn is_readable(spelling: &str) -> bool
-    ensures { result ≡ (is_number spelling.now && not (is_too_wide spelling.now)) }
+/// Whether a number has more digits than the numbers of this project.
+pub(crate) fn is_too_wide(spelling: &str) -> bool
+    requires { IsTrue (is_number spelling.now) }
+    ensures { result ≡ is_too_wide spelling.now }
 {
-    Fixed::read(spelling).is_ok()
+    match Fixed::read(spelling) {
+        Ok(_) => false,
+        Err(NumberFault::Shape) => unreachable!(),
+        Err(NumberFault::TooWide) => true,
+    }
 }
 
 /// The token that a spelling of so many characters is.
@@ -99,7 +104,8 @@ fn text_of(alloc: Global, text: &str) -> Result<TokenKind, LexFault>
 }
 
 fn number_of(spelling: &str) -> TokenKind
-    requires { (is_number spelling.now && not (is_too_wide spelling.now)) ≡ true }
+    requires number { IsTrue (is_number spelling.now) }
+    requires readable { is_too_wide spelling.now ≡ false }
     ensures { result ≡ token.Number (millionths_of spelling.now) (not (list_any is_point spelling.now)) }
 {
     match Fixed::read(spelling) {

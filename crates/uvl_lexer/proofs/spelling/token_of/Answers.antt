@@ -1,5 +1,5 @@
 -- The bytes of a spelling are those of its characters.
-use Rattle.std.proofs.Common.{◌≡◌, ℕ, List, true, not, ◌&&◌, sym, ap, ◌∙◌, subst}
+use Rattle.std.proofs.Common.{◌≡◌, ℕ, List, true, false, not, sym, ap, ◌∙◌, subst}
 use Rattle.std.specs.Prelude.{chars, encode_utf8_all, IfOk}
 use Rattle.std.specs.List.{list_any}
 use Rattle.std.proofs.lemmas.Str.{encodes-chars}
@@ -9,15 +9,20 @@ use Rattle.uvl_lexer.specs.declared.token.TokenKind.TheVariants as token
 use Rattle.uvl_lexer.specs.declared.piece.Lexeme.{Lexeme}
 use Rattle.uvl_lexer.specs.Words.{word_of}
 use Rattle.uvl_lexer.specs.Layout.{token_of, word_or_name}
-use Rattle.uvl_lexer.specs.Spellings.{IsReadable}
+use Rattle.uvl_lexer.specs.Spellings.{IsSpelling, IsReadable}
 use Rattle.uvl_lexer.proofs.spelling.token_of.Goals as goal
 
-pub number_of-requires : goal.number_of-requires
-number_of-requires c =
+pub number_of-requires-clause-number : goal.number_of-requires-clause-number
+number_of-requires-clause-number c =
     let s = c.args.spelling.now in
     let bytes : encode_utf8_all (chars s) ≡ s = encodes-chars s c.utf8.spelling in
-    subst (λ (b : List ℕ). (is_number b && not (is_too_wide b)) ≡ true) bytes
-    (subst (λ (l : Lexeme). IsReadable l (chars s)) c.in-Number.is c.requires.readable)
+    subst (λ (b : List ℕ). is_number b ≡ true) bytes (subst (λ (l : Lexeme). IsSpelling l (chars s)) c.in-Number.is c.requires.spelled)
+
+pub number_of-requires-clause-readable : goal.number_of-requires-clause-readable
+number_of-requires-clause-readable c =
+    let s = c.args.spelling.now in
+    let bytes : encode_utf8_all (chars s) ≡ s = encodes-chars s c.utf8.spelling in
+    subst (λ (b : List ℕ). is_too_wide b ≡ false) bytes (subst (λ (l : Lexeme). IsReadable l (chars s)) c.in-Number.is c.requires.readable)
 
 pub returns-in-Identifier-clause-token : goal.returns-in-Identifier-clause-token
 returns-in-Identifier-clause-token c =

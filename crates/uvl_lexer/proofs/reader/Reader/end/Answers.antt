@@ -14,7 +14,8 @@ use Rattle.uvl_lexer.specs.declared.reader.Reader.{Reader}
 use Rattle.uvl_lexer.specs.declared.token.Token.{Token}
 use Rattle.uvl_lexer.specs.declared.token.TokenKind.TheVariants as token
 use Rattle.uvl_lexer.specs.Cut.{Cut, Whole, Unread, cut}
-use Rattle.uvl_lexer.specs.Layout.{Lexed, fault_at, newline_at, dedents, mark_at}
+use Rattle.uvl_lexer.specs.Layout.{Lexed, fault_at, dedents, mark_at}
+use Rattle.uvl_lexer.specs.Turns.{newline_at}
 use Rattle.uvl_lexer.specs.Pieces.{piece_at}
 use Rattle.uvl_lexer.specs.Positions.{place_of}
 use Rattle.uvl_lexer.specs.Reading.{read_on, OnFault}

@@ -4,17 +4,17 @@ use denote.Text.{Utf8}
 use denote.Shadow.{shadow}
 use Rattle.std.specs.Prelude.{chars}
 use Rattle.uvl_lexer.specs.Cut.{cut}
-use Rattle.uvl_lexer.specs.Layout.{lexed}
+use Rattle.uvl_lexer.specs.Turns.{read_through}
 use Rattle.uvl_lexer.specs.Positions.{IsSound}
 use Rattle.uvl_lexer.specs.Reading.{read_on}
-use Rattle.uvl_lexer.proofs.lexer.lex.Given as goal
+use Rattle.uvl_lexer.proofs.lexer.read_text.Given as goal
 
 abbrev pub invariant-loop-piece : goal.invariant-loop-piece
 invariant-loop-piece l =
     shadow (Utf8 l.rest)
     × IsSound l.reader.position
     × (l.reader.position.byte + length l.rest ≡ length l.text)
-    × (lexed (chars l.text) ≡ read_on l.reader (cut (chars l.rest)))
+    × (read_through (chars l.text) ≡ read_on l.reader (cut (chars l.rest)))
 
 abbrev pub decreases-loop-piece : goal.decreases-loop-piece
 decreases-loop-piece l = length (chars l.rest)
