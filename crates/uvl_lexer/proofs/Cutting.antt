@@ -1,9 +1,7 @@
 -- The cut of a text, one piece after another.
-use Rattle.std.proofs.Common.{◌≡◌, ℕ, zero, suc, ◌+◌, ◌-◌, ◌≤◌, Bool, true, false, List, [], ◌∷◌, take, drop, Option, Some, None, refl, sym, ap, ◌∙◌, arith, inl, inr}
-use Rattle.std.proofs.lemmas.Bool.{cases_Bool, cond-true, cond-false, eqb-true}
-use Rattle.uvl_lexer.specs.declared.piece.PieceKind.{PieceKind}
+use Rattle.std.proofs.Common.{◌≡◌, ℕ, zero, suc, ◌-◌, ◌≤◌, List, [], ◌∷◌, take, drop, Option, Some, None, refl, ap, ◌∙◌, arith}
 use Rattle.uvl_lexer.specs.Pieces.{Piece, piece_at}
-use Rattle.uvl_lexer.specs.Cut.{Cut, Whole, Unread, Begins, cut_behind, cut, piece_onto, first_onto, others_of}
+use Rattle.uvl_lexer.specs.Cut.{Whole, Unread, cut_behind, cut, piece_onto, first_onto, others_of}
 
 -- characters of a piece that has been read already are passed over
 skipped : (n : ℕ) (cs : List ℕ) → cut_behind n cs ≡ cut (drop n cs)

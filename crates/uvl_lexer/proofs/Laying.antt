@@ -1,7 +1,6 @@
 -- Layout marks and tokens, one piece after another.
-use Rattle.std.proofs.Common.{◌≡◌, ℕ, suc, ◌+◌, ◌<◌, ◌≤◌, ◌==◌, Bool, true, false, cond, ◌&&◌, not, List, [], ◌∷◌, ◌++◌, length, take, drop, replicate, ◌⊎◌, Option, Some, None, Ok, Err, refl, sym, ap, ◌∙◌, subst, append_assoc, arith, inl, inr}
+use Rattle.std.proofs.Common.{◌≡◌, ℕ, suc, ◌<◌, ◌==◌, Bool, true, false, cond, ◌&&◌, not, List, [], ◌∷◌, ◌++◌, length, take, drop, replicate, ◌⊎◌, Option, Some, None, Ok, Err, refl, sym, ap, ◌∙◌, append_assoc, arith, inl, inr}
 use Rattle.std.specs.Prelude.{nat_lt, encode_utf8_all}
-use Rattle.std.specs.List.{prefix_len}
 use Rattle.std.proofs.lemmas.Bool.{cases_Bool, cond-true, cond-false}
 use Rattle.std.proofs.lemmas.Bool.Decides.{nat_tests}
 use Rattle.std.proofs.lemmas.List.{append-nil}
@@ -22,7 +21,7 @@ use Rattle.uvl_lexer.specs.Cut.{Cut, cut, Whole, Unread, Begins, comment_onto, c
 use Rattle.uvl_lexer.specs.Pieces.{Piece}
 use Rattle.uvl_lexer.specs.Reading.{OnFault}
 use Rattle.uvl_lexer.specs.Spellings.{IsBlank}
-use Rattle.uvl_lexer.specs.Layout.{Lexed, Units, Finished, Stopped, Refused, Ended, Spelled, Lines, NoMore, Unreadable, RefusedFirst, Line, BrokenOff, Begun, lines_from, laid_out, line_marks, tokens_onto, token_onto, token_at, token_of, mark_at, dedents, units_of, refusal_of, brackets_behind, brackets_behind_token, ends_line_at, fault_at, lexed, after_mark, front_of}
+use Rattle.uvl_lexer.specs.Layout.{Lexed, Units, Finished, Stopped, Refused, Ended, Spelled, Begun, lines_from, laid_out, line_marks, tokens_onto, token_onto, token_at, token_of, mark_at, dedents, units_of, refusal_of, brackets_behind, brackets_behind_token, ends_line_at, fault_at, lexed, after_mark, front_of}
 use Rattle.uvl_lexer.specs.Turns.{read_units, read_through, marks_before, newline_at, levels_after, may_begin}
 use Rattle.uvl_lexer.specs.Levels.{innermost, closed_by, kept_by, is_aligned, levels_behind}
 use Rattle.uvl_lexer.specs.Positions.{place_of, behind}

@@ -1,15 +1,14 @@
 -- The spelling of a piece is what the piece asks for.
-use Rattle.std.proofs.Common.{◌≡◌, ℕ, zero, suc, ◌+◌, ◌-◌, ◌<◌, ◌≤◌, ◌==◌, Bool, true, false, not, cond, ◌&&◌, List, [], ◌∷◌, length, take, drop, Option, Some, None, refl, sym, ap, ◌∙◌, subst, inl, inr, arith, length-drop}
-use Rattle.std.specs.Prelude.{⊤}
-use Rattle.std.specs.List.{list_all, prefix_len}
+use Rattle.std.proofs.Common.{◌≡◌, ℕ, zero, suc, ◌+◌, ◌-◌, ◌≤◌, ◌==◌, Bool, true, false, not, cond, ◌&&◌, List, [], ◌∷◌, length, take, drop, Option, Some, None, refl, sym, ap, ◌∙◌, subst, inl, inr, arith, length-drop}
+use Rattle.std.specs.List.{prefix_len}
 use Rattle.std.specs.Option.{option_map}
 use Rattle.std.proofs.lemmas.Bool.{cases_Bool, cond-true, cond-false, eqb-true}
 use Rattle.std.proofs.lemmas.List.{length-take}
 use Rattle.std.proofs.lemmas.List.Sums.{prefix_len-le-length}
-use Rattle.uvl_base.specs.Identifier.{begins_identifier, continues_identifier}
+use Rattle.uvl_base.specs.Identifier.{begins_identifier}
 use Rattle.uvl_base.specs.Name.{may_stand_in_name, is_name}
 use Rattle.uvl_lexer.specs.Characters.{is_of_class, begins_with}
-use Rattle.uvl_lexer.specs.declared.characters.CharacterClass.TheVariants.{InIdentifier, Digit, InQuotes, InText}
+use Rattle.uvl_lexer.specs.declared.characters.CharacterClass.TheVariants.{Digit, InQuotes, InText}
 use Rattle.uvl_lexer.specs.declared.token.Symbol.{Symbol}
 use Rattle.uvl_lexer.specs.declared.token.Symbol.TheVariants.{Slash}
 use Rattle.std.specs.Char.{is_ascii_digit}
@@ -19,7 +18,7 @@ use Rattle.uvl_lexer.specs.declared.piece.Lexeme.TheVariants as spells
 use Rattle.uvl_lexer.specs.declared.piece.PieceKind.TheVariants as piece
 use Rattle.uvl_lexer.specs.Layout.{inner}
 use Rattle.uvl_lexer.specs.Pieces.{Piece, piece_at, piece_behind, opening_of, opening_of_other, slash_at, block_at, quoted_at, text_at, point_at, number_at, identifier_at, symbol_at, through_close, line_len}
-use Rattle.uvl_lexer.specs.Spellings.{IsPiece, IsSpelling}
+use Rattle.uvl_lexer.specs.Spellings.{IsPiece}
 use Rattle.uvl_lexer.proofs.Names.{identifier-is_name, front_all}
 use Rattle.uvl_lexer.proofs.Numbers.{SpellsNumber, number_bytes, point_digits, number_digits}
 

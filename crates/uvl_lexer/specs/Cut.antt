@@ -1,5 +1,5 @@
 -- The cut of a text into pieces.
-use Rattle.std.specs.Prelude.{ℕ, zero, suc, ◌+◌, ◌-◌, Bool, ◌&&◌, ◌==◌, if◌then◌else◌, List, [], ◌∷◌, take, Option, Some, None}
+use Rattle.std.specs.Prelude.{ℕ, zero, suc, ◌-◌, ◌&&◌, ◌==◌, if◌then◌else◌, List, [], ◌∷◌, take, Option, Some, None}
 use Rattle.uvl_lexer.specs.declared.piece.PieceKind.{PieceKind}
 use Rattle.uvl_lexer.specs.declared.piece.PieceKind.TheVariants as piece
 use Rattle.uvl_lexer.specs.Characters.{begins_with}

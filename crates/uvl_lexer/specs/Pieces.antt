@@ -10,7 +10,6 @@ use Rattle.uvl_lexer.specs.declared.token.Symbol.{Symbol}
 use Rattle.uvl_lexer.specs.declared.token.Symbol.TheVariants.{LeftParen, RightParen, LeftBracket, RightBracket, LeftBrace, RightBrace, Comma, Dot, Dots, Bang, Amp, Bar, Implies, Iff, Equal, Differs, Less, AtMost, Greater, AtLeast, Plus, Minus, Star, Slash}
 use Rattle.uvl_lexer.specs.declared.piece.Opening.{Opening}
 use Rattle.uvl_lexer.specs.declared.piece.Opening.TheVariants as opens
-use Rattle.uvl_lexer.specs.declared.piece.Lexeme.{Lexeme}
 use Rattle.uvl_lexer.specs.declared.piece.Lexeme.TheVariants as spells
 use Rattle.uvl_lexer.specs.declared.piece.PieceKind.{PieceKind}
 use Rattle.uvl_lexer.specs.declared.piece.PieceKind.TheVariants as piece

@@ -1,5 +1,5 @@
 -- What is left to say of a text, from a reader on.
-use Rattle.std.specs.Prelude.{◌≡◌, ℕ, Bool, true, false, ⊤, List, ◌⊎◌, Option, Some, length, IsTrue, encode_utf8_all, ◌≤◌}
+use Rattle.std.specs.Prelude.{◌≡◌, true, false, ⊤, ◌⊎◌, Option, Some}
 use Rattle.uvl_base.specs.declared.place.Place.{Place}
 use Rattle.uvl_base.specs.declared.fault.FaultKind.{FaultKind}
 use Rattle.uvl_base.specs.declared.fault.FaultKind.TheVariants.{BadIndent}

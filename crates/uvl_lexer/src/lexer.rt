@@ -1,5 +1,8 @@
 //! The lexer.
-ghost use Rattle.std.specs.Prelude.{◌≡◌, ◌+◌, ◌≤◌, Ok, Err, IfOk, IfErr, length, chars};
+ghost use Rattle.std.specs.Prelude.{◌≡◌, ◌+◌, ◌≤◌, Ok, Err, IfOk, IfErr, IsErr, List, length, chars};
+ghost use Rattle.uvl_base.specs.declared.fault.FaultKind.{FaultKind};
+ghost use Rattle.uvl_base.specs.declared.place.Place.{Place};
+ghost use Rattle.uvl_lexer.specs.declared.token.Token.{Token};
 ghost use Rattle.uvl_lexer.specs.Layout.{Tokens, Stops, after_mark, front_of};
 ghost use Rattle.uvl_lexer.specs.Positions.{IsSound};
 ghost use Rattle.uvl_lexer.specs.Reading.{OnFault};
@@ -17,11 +20,13 @@ use std::alloc::Global;
 /// into tokens, spaces, tabs, line breaks and comments, each the longest that begins at its place.
 /// A text that has none is refused with the first place at which it can't be read on and, of the
 /// faults there, the one with the lowest number: `BadCharacter`, `BadIndent`, `Unclosed` or
-/// `NumberTooWide`.
+/// `NumberTooWide`. Nothing but want of memory refuses a text that has tokens.
 pub fn lex(alloc: Global, text: &str) -> Result<Vec<Token>, LexFault>
     requires { length text.now ≤ 8388608 }
     ensures tokens { IfOk result (λ tokens. Tokens (chars text.now) tokens.items) }
     ensures stops { IfErr result (λ fault. OnFault fault (λ place kind. Stops (chars text.now) place kind)) }
+    ensures never_refused { (tokens : List Token) → Tokens (chars text.now) tokens → IfErr result (λ fault. fault ≡ LexFault.OutOfMemory) }
+    ensures never_read { (place : Place) (kind : FaultKind) → Stops (chars text.now) place kind → IsErr result }
 {
     read_text(alloc, text)
 }

@@ -1,7 +1,7 @@
 -- One character is taken after another, and the text is cut in front of what is left.
-use Rattle.std.proofs.Common.{◌≡◌, ℕ, List, [], ◌<◌, ◌-◌, length, take, drop, refl, sym, ap, ◌∙◌, subst, arith}
+use Rattle.std.proofs.Common.{◌≡◌, ℕ, List, [], take, drop, refl, sym, ap, ◌∙◌, subst, arith}
 use Rattle.std.specs.Prelude.{chars, IsUtf8}
-use Rattle.uvl_lexer.proofs.Splits.{Taken, taken_more, something_left, may_be_cut, front_characters, rest_characters, rest_is}
+use Rattle.uvl_lexer.proofs.Splits.{taken_more, something_left, may_be_cut, front_characters, rest_characters, rest_is}
 use Rattle.uvl_lexer.proofs.characters.split_at_count.Goals as goal
 
 pub loop-taken-init : goal.loop-taken-init

@@ -1,10 +1,10 @@
 -- What a text is read as is a function of it.
-use Rattle.std.proofs.Common.{◌≡◌, ℕ, List, Ok, Err, refl, sym, ap, ◌∙◌, inl, inr}
+use Rattle.std.proofs.Common.{◌≡◌, ℕ, List, Ok, Err, refl, ap, inl, inr}
 use Rattle.std.specs.Prelude.{chars}
 use Rattle.uvl_base.specs.declared.place.Place.{Place}
 use Rattle.uvl_base.specs.declared.fault.FaultKind.{FaultKind}
 use Rattle.uvl_lexer.specs.declared.token.Token.{Token}
-use Rattle.uvl_lexer.specs.Law.{HasTokens, HasStop, IsReadOnce}
+use Rattle.uvl_lexer.specs.Law.{IsReadOnce}
 use Rattle.uvl_lexer.specs.Layout.{Lexed, lexed}
 use Rattle.uvl_lexer.proofs.law.every_text_is_read_once.Goals as goal
 

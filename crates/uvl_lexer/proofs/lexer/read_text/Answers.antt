@@ -1,13 +1,11 @@
 -- One piece after another is taken, up to the end or to a place at which none begins.
-use Rattle.std.proofs.Common.{◌≡◌, ℕ, List, ◌+◌, ◌≤◌, Some, Err, length, take, drop, sym, ap, ◌∙◌, subst, arith, length-append}
+use Rattle.std.proofs.Common.{◌≡◌, ℕ, List, ◌≤◌, Some, Err, length, take, drop, sym, ap, ◌∙◌, subst, arith, length-append}
 use Rattle.std.specs.Prelude.{chars}
 use Rattle.std.proofs.lemmas.Result.{err_from_is_err_and}
-use Rattle.uvl_base.specs.declared.place.Place.{Place}
-use Rattle.uvl_base.specs.declared.fault.FaultKind.{FaultKind}
 use Rattle.uvl_lexer.specs.Cut.{Cut, cut, piece_onto}
 use Rattle.uvl_lexer.specs.Turns.{read_through}
 use Rattle.uvl_lexer.specs.Pieces.{Piece, piece_at}
-use Rattle.uvl_lexer.specs.Reading.{read_on, OnFault}
+use Rattle.uvl_lexer.specs.Reading.{read_on}
 use Rattle.uvl_lexer.specs.Spellings.{IsPiece}
 use Rattle.uvl_lexer.proofs.Cutting.{cut_piece}
 use Rattle.uvl_lexer.proofs.Laying.{OnFault-map}

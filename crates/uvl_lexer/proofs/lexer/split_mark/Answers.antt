@@ -1,5 +1,5 @@
 -- A byte order mark has three bytes.
-use Rattle.std.proofs.Common.{◌≡◌, ℕ, ◌++◌, length, ap, ◌∙◌, arith, length-append}
+use Rattle.std.proofs.Common.{◌≡◌, ℕ, length, ap, ◌∙◌, arith, length-append}
 use Rattle.std.specs.Prelude.{encode_utf8}
 use Rattle.std.proofs.lemmas.Str.{length-encode}
 use Rattle.uvl_lexer.specs.declared.position.Position.{Position}

@@ -1,20 +1,19 @@
 -- The end of the text, or what can't be read.
-use Rattle.std.proofs.Common.{◌≡◌, ℕ, List, [], ◌∷◌, ◌++◌, ◌==◌, true, false, length, sym, ap, ◌∙◌, subst, Err}
+use Rattle.std.proofs.Common.{◌≡◌, ℕ, List, [], ◌∷◌, ◌++◌, length, sym, ap, ◌∙◌, subst, Err}
 use Rattle.std.specs.Prelude.{chars}
 use Rattle.std.proofs.lemmas.Bool.{eqb-true}
 use Rattle.std.proofs.lemmas.List.{nil_from_length}
 use Rattle.uvl_base.specs.declared.place.Place.{Place}
 use Rattle.uvl_base.specs.declared.fault.FaultKind.{FaultKind}
 use Rattle.uvl_base.specs.declared.fault.FaultKind.TheVariants.{Unclosed}
-use Rattle.uvl_lexer.specs.declared.brackets.Bracket.{Bracket}
 use Rattle.uvl_lexer.specs.declared.fault.LexFault.{LexFault}
 use Rattle.uvl_lexer.specs.declared.fault.LexFault.TheVariants.{At}
 use Rattle.uvl_lexer.specs.declared.position.Position.{Position}
 use Rattle.uvl_lexer.specs.declared.reader.Reader.{Reader}
 use Rattle.uvl_lexer.specs.declared.token.Token.{Token}
 use Rattle.uvl_lexer.specs.declared.token.TokenKind.TheVariants as token
-use Rattle.uvl_lexer.specs.Cut.{Cut, Whole, Unread, cut}
-use Rattle.uvl_lexer.specs.Layout.{Lexed, fault_at, dedents, mark_at}
+use Rattle.uvl_lexer.specs.Cut.{Whole, Unread, cut}
+use Rattle.uvl_lexer.specs.Layout.{Lexed, dedents, mark_at}
 use Rattle.uvl_lexer.specs.Turns.{newline_at}
 use Rattle.uvl_lexer.specs.Pieces.{piece_at}
 use Rattle.uvl_lexer.specs.Positions.{place_of}

@@ -1,5 +1,5 @@
 -- The blank is taken, and the reader stands behind it.
-use Rattle.std.proofs.Common.{◌≡◌, ℕ, length, ap, ◌∙◌, arith}
+use Rattle.std.proofs.Common.{ℕ, length, ap, ◌∙◌, arith}
 use Rattle.std.specs.Prelude.{chars}
 use Rattle.uvl_lexer.specs.declared.reader.Reader.{Reader}
 use Rattle.uvl_lexer.specs.Positions.{behind}

@@ -1,7 +1,7 @@
 -- Each turn takes one character, or the two of a line end.
-use Rattle.std.proofs.Common.{◌≡◌, ℕ, ◌+◌, length, ap, ◌∙◌, arith, length-append}
+use Rattle.std.proofs.Common.{length, ap, ◌∙◌, arith, length-append}
 use Rattle.std.specs.Prelude.{chars}
-use Rattle.uvl_lexer.specs.Cut.{Cut, comment_onto}
+use Rattle.uvl_lexer.specs.Cut.{comment_onto}
 use Rattle.uvl_lexer.specs.Reading.{read_on}
 use Rattle.uvl_lexer.proofs.Laying.{comment_split}
 use Rattle.uvl_lexer.proofs.Sizes.{no_bytes}

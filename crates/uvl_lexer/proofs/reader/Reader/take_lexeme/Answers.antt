@@ -1,7 +1,6 @@
 -- The token is taken, and the reader stands behind it.
-use Rattle.std.proofs.Common.{◌≡◌, ℕ, length, ap, ◌∙◌, arith}
+use Rattle.std.proofs.Common.{ℕ, length, ap, ◌∙◌, arith}
 use Rattle.std.specs.Prelude.{chars}
-use Rattle.uvl_lexer.specs.declared.position.Position.{Position}
 use Rattle.uvl_lexer.specs.declared.piece.PieceKind.TheVariants as piece
 use Rattle.uvl_lexer.specs.Positions.{behind}
 use Rattle.uvl_lexer.proofs.Laying.{token_read}
