@@ -18,7 +18,7 @@ use crate::outline::{Entry, outline};
 use crate::row::feature_row;
 use dd_store::{Handle, OutOfMemory, Store};
 use std::alloc::Global;
-use uvl_model::{Model, rows_give_names};
+use uvl_model::Model;
 
 /// A handle whose value for an assignment is whether the features with a true variable are a
 /// product of the model. Variable k stands for feature k, and other variables have no say.
@@ -48,9 +48,8 @@ pub fn compile(alloc: Global, store: &mut Store, model: &Model) -> Result<Handle
     ensures sound { IsSound store.new }
 {
     outline_tells_products();
-    rows_give_names();
     store.nodes();
-    let features = model.features().len();
+    model.features();
     let entries = outline(alloc, model)?;
     let mut row = first_row(alloc, store, &entries)?;
     match row.pop() {

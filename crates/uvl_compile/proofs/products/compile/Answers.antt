@@ -12,7 +12,7 @@ use Rattle.uvl_compile.proofs.products.compile.Goals as goal
 -- the row has the answered handle alone
 one_handle : (c : goal.After-drop-entries-2) → c.in_ok-row.row.items ≡ c.in-Some.handle ∷ []
 one_handle c =
-    let sound = c.features-features.ensures.sound in
+    let sound = c.features.ensures.sound in
     let entries : c.deref.result.now ≡ c.in_ok-entries.entries.items = c.deref.ensures.value in
     let whole = entries ∙ c.in_ok-entries.ensures.outline sound.tree sound.spelled in
     only_one c.in_ok-row.row.items c.pop.new.self.items c.in-Some.handle c.in-Some.ensures.items
@@ -23,7 +23,7 @@ returns-clause-gained c = gains_one c.in_ok-row.ensures.held (one_handle c)
 
 pub returns-clause-products : goal.returns-clause-products
 returns-clause-products c = λ tree marks spelled.
-    let sound = c.features-features.ensures.sound in
+    let sound = c.features.ensures.sound in
     let a = assignment_of marks in
     let whole = c.deref.ensures.value ∙ c.in_ok-entries.ensures.outline tree spelled in
     let law = c.outline_tells_products.ensures tree c.args.model.now marks sound c.requires.thin spelled in
