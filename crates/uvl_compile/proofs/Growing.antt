@@ -5,7 +5,7 @@ use Rattle.dd_store.specs.declared.row.Row.{Row}
 use Rattle.dd_store.specs.declared.row.Var.{Var}
 use Rattle.dd_store.specs.Order.{level_of_row}
 use Rattle.dd_store.specs.Table.{Table, row_of, handles_on, top_of, IsLive}
-use Rattle.dd_store.specs.Changes.{one_on, KeepsHandles, GainsHandle, KeepsNodes, KeepsValues, KeepsTops}
+use Rattle.dd_store.specs.Changes.{one_on, GainsHandle, KeepsNodes, KeepsValues, KeepsTops}
 use Rattle.uvl_compile.specs.Held.{count_on, HoldsMore, Grows}
 
 -- a handle counts where it stands
@@ -26,13 +26,6 @@ count_on-at (x ∷ xs) (suc d) within = let rest = count_on-at xs d (omega arith
 -- live handles stay live where there are more
 pub live_more : {old new : Table} {hs : List ℕ} → HoldsMore old new hs → (n : ℕ) → IsLive old n → IsLive new n
 live_more more n live = let each = more.each n in omega arith
-
--- and the new ones are live
-pub live_new : {old new : Table} {hs : List ℕ} → HoldsMore old new hs → (d : ℕ) → d < length hs → IsLive new (slice_index hs d)
-live_new {hs = hs} more d within =
-    let each = more.each (slice_index hs d) in
-    let counts = count_on-at hs d within in
-    omega arith
 
 -- one handle more behind others
 pub more_push : {old mid new : Table} {hs : List ℕ} {h : ℕ} → HoldsMore old mid hs → GainsHandle mid new h → HoldsMore old new (hs ++ h ∷ [])
@@ -68,17 +61,6 @@ grows_kept one nodes values tops live after = record {
   budget = nodes.budget ∙ one.budget;
 }
 
--- of no nodes
-pub kept_grows : {b c : Table} → KeepsNodes b c → KeepsValues b c → KeepsTops b c → ((n : ℕ) → IsLive b n → IsLive c n) → Grows b c 0
-kept_grows nodes values tops live = record {
-  values = λ n x is. values n x is (live n is);
-  tops = tops;
-  rows = λ n r is. nodes.rows n ∙ is;
-  count = let same = nodes.count in omega arith;
-  order = nodes.order;
-  budget = nodes.budget;
-}
-
 -- and of more nodes
 pub grows_more : {a b : Table} {k : ℕ} (j : ℕ) → Grows a b k → k ≤ j → Grows a b j
 grows_more j one more = record {
@@ -92,9 +74,6 @@ grows_more j one more = record {
 
 pub live_gained : {old new : Table} {h : ℕ} → GainsHandle old new h → (n : ℕ) → IsLive old n → IsLive new n
 live_gained gain n live = let each = gain.each n in omega arith
-
-pub live_kept : {old new : Table} → KeepsHandles old new → (n : ℕ) → IsLive old n → IsLive new n
-live_kept kept n live = let each = kept.each n in omega arith
 
 -- one change of the handles alone after another
 pub keeps_nodes_then : {a b c : Table} → KeepsNodes a b → KeepsNodes b c → KeepsNodes a c

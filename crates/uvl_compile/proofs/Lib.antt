@@ -4,3 +4,4 @@ pub mod Growing
 pub mod Rows
 pub mod Entries
 pub mod Limits
+pub mod ThreeVariables

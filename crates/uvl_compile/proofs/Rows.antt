@@ -40,20 +40,6 @@ part_kept s t n entries row part nodes values tops live = record {
   value = λ d a within. values _ a (part.live d within) (live d within) ∙ part.value d a within;
 }
 
-pub row_grows : (s t : Table) {k : ℕ} (n : ℕ) (entries : List Entry) (row : List ℕ) → IsRow s n entries row → Grows s t k
-    → ((m : ℕ) → IsLive s m → IsLive t m) → IsRow t n entries row
-row_grows s t n entries row is grows live = record {
-  part = part_grows s t n entries row is.part grows (λ d within. live _ (is.part.live d within));
-  places = is.places;
-}
-
-pub no_grows : (s t : Table) {k : ℕ} (v n : ℕ) → IsNo s v n → Grows s t k → ((m : ℕ) → IsLive s m → IsLive t m) → IsNo t v n
-no_grows s t v n is grows live = record {
-  live = live n is.live;
-  above = above_moves s t v n grows.order (grows.tops n is.live) is.above;
-  value = λ a. grows.values n a is.live ∙ is.value a;
-}
-
 -- the place of the last element
 at_end : (row : List ℕ) (h d : ℕ) → d ≡ length row → slice_index (row ++ h ∷ []) d ≡ h
 at_end [] h d e = rw e refl

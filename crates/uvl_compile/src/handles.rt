@@ -15,6 +15,7 @@ pub(crate) fn release_all(store: &mut Store, mut handles: Vec<Handle>)
     ensures tops { KeepsTops store.old store.new }
     ensures sound { IsSound store.new }
 {
+    // The store is sound also where nothing is done.
     store.nodes();
     while let Some(handle) = handles.pop() {
         store.release(handle);

@@ -9,3 +9,6 @@ mod row;
 
 pub use laws::outline_tells_products;
 pub use products::compile;
+
+#[cfg(test)]
+mod tests;

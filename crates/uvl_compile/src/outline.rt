@@ -31,6 +31,7 @@ pub(crate) fn outline(alloc: Global, model: &Model) -> Result<Vec<Entry>, OutOfM
     ensures count { IfOk result (λ entries. length entries.items ≡ length model.now.features) }
     ensures shallow { IfOk result (λ entries. AreShallow 63 entries.items) }
 {
+    // A tree has as many features as its rows: a fact for the proof.
     rows_give_names();
     let mut entries = vec![in alloc; ROOT; model.features().len()]?;
     for group in model.groups() {

@@ -47,6 +47,7 @@ pub fn compile(alloc: Global, store: &mut Store, model: &Model) -> Result<Handle
     ensures budget { store.new.budget ≡ store.old.budget }
     ensures sound { IsSound store.new }
 {
+    // The law on outlines, and that the store and the model are sound: they are facts for the proof.
     outline_tells_products();
     store.nodes();
     model.features();
@@ -93,6 +94,7 @@ fn last_row(alloc: Global, store: &mut Store) -> Result<Vec<Handle>, OutOfMemory
     ensures grows { Grows store.old store.new 0 }
     ensures sound { IsSound store.new }
 {
+    // The store is sound also where nothing is done.
     store.nodes();
     let mut row = Vec::new(alloc);
     row.reserve(1)?;

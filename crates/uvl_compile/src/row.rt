@@ -69,6 +69,7 @@ fn fill(
     ensures grows { Grows store.old store.new 64 }
     ensures sound { IsSound store.new }
 {
+    // The store is sound also where nothing is done.
     store.nodes();
     for chosen in 0..entries[feature].depth + 1 {
         row.reserve(1)?;
