@@ -24,3 +24,7 @@ pub record HasStop (text : List ℕ) : Type 0 where
 -- exactly one of the two holds
 abbrev pub IsReadOnce : List ℕ → Type 0
 IsReadOnce text = HasTokens text ⊎ HasStop text
+
+-- every text is read as one thing
+abbrev pub EachTextIsReadOnce : Type 0
+EachTextIsReadOnce = (text : List ℕ) → IsReadOnce text

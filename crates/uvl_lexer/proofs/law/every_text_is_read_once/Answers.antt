@@ -1,6 +1,5 @@
 -- What a text is read as is a function of it.
 use Rattle.std.proofs.Common.{◌≡◌, ℕ, List, Ok, Err, refl, ap, inl, inr}
-use Rattle.std.specs.Prelude.{chars}
 use Rattle.uvl_base.specs.declared.place.Place.{Place}
 use Rattle.uvl_base.specs.declared.fault.FaultKind.{FaultKind}
 use Rattle.uvl_lexer.specs.declared.token.Token.{Token}
@@ -36,4 +35,4 @@ read_once text (Err fault) is =
     })
 
 pub returns : goal.returns
-returns c = read_once (chars c.args.text.now) (lexed (chars c.args.text.now)) refl
+returns c = λ text. read_once text (lexed text) refl
