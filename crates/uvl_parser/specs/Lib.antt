@@ -1,0 +1,12 @@
+pub mod Tokens
+pub mod Tests
+pub mod Reading
+pub mod Shapes
+pub mod Refs
+pub mod Expressions
+pub mod Values
+pub mod Braces
+pub mod Groups
+pub mod Features
+pub mod Sections
+pub mod File

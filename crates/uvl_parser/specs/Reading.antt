@@ -1,0 +1,72 @@
+-- Readers, and how they are put together. A reader takes a part from the front of a list of tokens. It
+-- answers the part and the tokens behind it, or how many tokens are left where it stops: no part begins
+-- with the tokens up to and with the first of those.
+use Rattle.std.specs.Prelude.{◌≡◌, ℕ, zero, suc, cond, List, [], ◌∷◌, length, Result, Ok, Err, Option, Some, None}
+use Rattle.uvl_base.specs.declared.place.Place.{Place}
+use Rattle.uvl_lexer.specs.declared.token.Token.{Token}
+use Rattle.uvl_lexer.specs.declared.token.TokenKind.{TokenKind}
+use Rattle.uvl_parser.specs.Tests.{Test}
+use Rattle.uvl_parser.specs.declared.reading.Stop.{Stop}
+use Rattle.uvl_parser.specs.declared.reading.Stop.TheVariants.{Stuck, OutOfMemory}
+
+abbrev pub Read : Type 0 → Type 0
+Read A = Result (A × List Token) ℕ
+
+abbrev pub Reader : Type 0 → Type 0
+Reader A = List Token → Read A
+
+-- what is read, and then what f makes of it
+infixl 10 ◌>>=◌
+abbrev pub ◌>>=◌ : {A B : Type 0} → Read A → (A × List Token → Read B) → Read B
+(Ok r) >>= f = f r
+(Err left) >>= f = Err left
+
+-- nothing is taken
+abbrev pub done : {A : Type 0} → A → Reader A
+done a ts = Ok (a, ts)
+
+-- one reader behind the other, which depends on what the first one read
+abbrev pub bind : {A B : Type 0} → Reader A → (A → Reader B) → Reader B
+bind p f ts = p ts >>= λ r. f r.0 r.1
+
+-- a token that passes a test, of which the place is kept
+abbrev pub one : Test → Reader Place
+one test [] = Err 0
+one test (t ∷ ts) = cond (test t.kind) (Ok (t.place, ts)) (Err (suc (length ts)))
+
+abbrev pub accepted : {A : Type 0} → Option A → Token → List Token → Read (A × Place)
+accepted (Some a) t ts = Ok ((a, t.place), ts)
+accepted None t ts = Err (suc (length ts))
+
+-- a token that is something, with its place
+abbrev pub accept : {A : Type 0} → (TokenKind → Option A) → Reader (A × Place)
+accept f [] = Err 0
+accept f (t ∷ ts) = accepted (f t.kind) t ts
+
+-- one of two readers, by the first token: the second where there is none
+abbrev pub choose : {A : Type 0} → Test → Reader A → Reader A → Reader A
+choose test p q [] = q []
+choose test p q (t ∷ ts) = cond (test t.kind) (p (t ∷ ts)) (q (t ∷ ts))
+
+-- none or more, while the first token passes a test, and at most so many
+unfoldable pub repeat : {A : Type 0} → ℕ → Test → Reader A → Reader (List A)
+repeat zero test p ts = Ok ([], ts)
+repeat (suc n) test p ts =
+    choose test (bind p (λ a. bind (repeat n test p) (λ items. done (a ∷ items)))) (done []) ts
+
+-- none or more, while the first token passes a test: there are no more than there are tokens
+abbrev pub many : {A : Type 0} → Test → Reader A → Reader (List A)
+many test p ts = repeat (length ts) test p ts
+
+-- a reader for parts that nest, where there are no more levels than there are tokens
+abbrev pub closed : {A : Type 0} → (ℕ → Reader A) → Reader A
+closed p ts = p (suc (length ts)) ts
+
+-- a function gave what reading gives, unless memory ran out
+abbrev pub Fails : {Y : Type 0} → Stop → Read Y → Type 0
+Fails (Stuck left) read = read ≡ Err left
+Fails OutOfMemory read = Unit {0}
+
+abbrev pub Gives : {X Y : Type 0} → (X → Y × List Token) → Result X Stop → Read Y → Type 0
+Gives view (Ok x) read = read ≡ Ok (view x)
+Gives view (Err stop) read = Fails stop read

@@ -1,0 +1,7 @@
+//! Tokens to syntax: the grammar of UVL files, and a parser that answers exactly what it spells.
+#![tactic(auto)]
+
+mod fault;
+mod reading;
+
+pub use fault::ParseFault;
