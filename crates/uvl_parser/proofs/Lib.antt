@@ -1,1 +1,3 @@
+pub mod TokenKinds
 pub mod Readers
+pub mod Completing
