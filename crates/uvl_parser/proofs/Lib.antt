@@ -1,3 +1,4 @@
 pub mod TokenKinds
 pub mod Readers
 pub mod Completing
+pub mod Parts

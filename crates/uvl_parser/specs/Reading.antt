@@ -22,15 +22,15 @@ abbrev pub ◌>>=◌ : {A B : Type 0} → Read A → (A × List Token → Read B
 (Err left) >>= f = Err left
 
 -- nothing is taken
-abbrev pub done : {A : Type 0} → A → Reader A
+unfoldable pub done : {A : Type 0} → A → Reader A
 done a ts = Ok (a, ts)
 
 -- one reader behind the other, which depends on what the first one read
-abbrev pub bind : {A B : Type 0} → Reader A → (A → Reader B) → Reader B
+unfoldable pub bind : {A B : Type 0} → Reader A → (A → Reader B) → Reader B
 bind p f ts = p ts >>= λ r. f r.0 r.1
 
 -- a token that passes a test, of which the place is kept
-abbrev pub one : Test → Reader Place
+unfoldable pub one : Test → Reader Place
 one test [] = Err 0
 one test (t ∷ ts) = cond (test t.kind) (Ok (t.place, ts)) (Err (suc (length ts)))
 
@@ -39,12 +39,12 @@ accepted (Some a) t ts = Ok ((a, t.place), ts)
 accepted None t ts = Err (suc (length ts))
 
 -- a token that is something, with its place
-abbrev pub accept : {A : Type 0} → (TokenKind → Option A) → Reader (A × Place)
+unfoldable pub accept : {A : Type 0} → (TokenKind → Option A) → Reader (A × Place)
 accept f [] = Err 0
 accept f (t ∷ ts) = accepted (f t.kind) t ts
 
 -- one of two readers, by the first token: the second where there is none
-abbrev pub choose : {A : Type 0} → Test → Reader A → Reader A → Reader A
+unfoldable pub choose : {A : Type 0} → Test → Reader A → Reader A → Reader A
 choose test p q [] = q []
 choose test p q (t ∷ ts) = cond (test t.kind) (p (t ∷ ts)) (q (t ∷ ts))
 
@@ -55,11 +55,11 @@ repeat (suc n) test p ts =
     choose test (bind p (λ a. bind (repeat n test p) (λ items. done (a ∷ items)))) (done []) ts
 
 -- none or more, while the first token passes a test: there are no more than there are tokens
-abbrev pub many : {A : Type 0} → Test → Reader A → Reader (List A)
+unfoldable pub many : {A : Type 0} → Test → Reader A → Reader (List A)
 many test p ts = repeat (length ts) test p ts
 
 -- a reader for parts that nest, where there are no more levels than there are tokens
-abbrev pub closed : {A : Type 0} → (ℕ → Reader A) → Reader A
+unfoldable pub closed : {A : Type 0} → (ℕ → Reader A) → Reader A
 closed p ts = p (suc (length ts)) ts
 
 -- a function gave what reading gives, unless memory ran out

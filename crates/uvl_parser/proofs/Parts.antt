@@ -1,0 +1,3 @@
+-- Each part of the grammar is read exactly: what a reader reads is spelled, and what is spelled is read.
+pub mod Samples
+pub mod Refs
