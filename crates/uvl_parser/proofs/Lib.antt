@@ -1,4 +1,5 @@
 pub mod TokenKinds
 pub mod Readers
 pub mod Completing
+pub mod Turns
 pub mod Parts

@@ -1,7 +1,7 @@
 -- Readers, and how they are put together. A reader takes a part from the front of a list of tokens. It
 -- answers the part and the tokens behind it, or how many tokens are left where it stops: no part begins
 -- with the tokens up to and with the first of those.
-use Rattle.std.specs.Prelude.{◌≡◌, ℕ, zero, suc, cond, List, [], ◌∷◌, length, Result, Ok, Err, Option, Some, None}
+use Rattle.std.specs.Prelude.{◌≡◌, ℕ, zero, suc, cond, List, [], ◌∷◌, ◌++◌, length, Result, Ok, Err, Option, Some, None}
 use Rattle.uvl_base.specs.declared.place.Place.{Place}
 use Rattle.uvl_lexer.specs.declared.token.Token.{Token}
 use Rattle.uvl_lexer.specs.declared.token.TokenKind.{TokenKind}
@@ -57,6 +57,10 @@ repeat (suc n) test p ts =
 -- none or more, while the first token passes a test: there are no more than there are tokens
 unfoldable pub many : {A : Type 0} → Test → Reader A → Reader (List A)
 many test p ts = repeat (length ts) test p ts
+
+-- what is read, behind what was read before
+abbrev pub with_front : {A : Type 0} → List A → Read (List A) → Read (List A)
+with_front front read = read >>= λ r. Ok (front ++ r.0, r.1)
 
 -- a reader for parts that nest, where there are no more levels than there are tokens
 unfoldable pub closed : {A : Type 0} → (ℕ → Reader A) → Reader A

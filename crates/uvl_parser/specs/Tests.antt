@@ -1,5 +1,6 @@
 -- Tests of a token's kind, as a reader makes them.
-use Rattle.std.specs.Prelude.{ℕ, Bool, true, false, ◌==◌, Option, Some, None}
+use Rattle.std.specs.Prelude.{ℕ, Bool, true, false, ◌==◌, List, [], ◌∷◌, Option, Some, None}
+use Rattle.uvl_lexer.specs.declared.token.Token.{Token}
 use Rattle.uvl_lexer.specs.declared.token.TokenKind.{TokenKind}
 use Rattle.uvl_lexer.specs.declared.token.TokenKind.TheVariants as token
 use Rattle.uvl_lexer.specs.declared.token.Word.{Word}
@@ -90,3 +91,8 @@ is_finish _ = false
 abbrev pub is_there : {A : Type 0} → Option A → Bool
 is_there (Some a) = true
 is_there None = false
+
+-- whether the first token passes a test
+abbrev pub begins : Test → List Token → Bool
+begins test [] = false
+begins test (t ∷ ts) = test t.kind

@@ -3,5 +3,7 @@
 
 mod fault;
 mod reading;
+mod reference;
+mod tokens;
 
 pub use fault::ParseFault;
