@@ -58,7 +58,7 @@ pub record Good {A : Type 0} (p : ℕ → Reader A) (R : Spelling A) (depth boun
 
 -- ---- what is spelled in another way
 
-weaken_outcome : {A : Type 0} (p : ℕ → Reader A) (R S : Spelling A) (d : ℕ) (ts : List Token)
+pub weaken_outcome : {A : Type 0} (p : ℕ → Reader A) (R S : Spelling A) (d : ℕ) (ts : List Token)
     → ((xs : List Token) (v : A) → R xs v → S xs v) → (r : Read A) → Outcome p R d ts r → Outcome p S d ts r
 unfolding bind one accept choose done many closed
 weaken_outcome p R S d ts f (Ok r) o =
@@ -91,7 +91,7 @@ unfolding bind one accept choose done many closed
 no_front [] ys e = refl
 no_front (x ∷ xs) ys e = cc
 
-example_of : {A : Type 0} (p : ℕ → Reader A) (R : Spelling A) (d : ℕ) (r : Read A) → Outcome p R d [] r → Example R
+pub example_of : {A : Type 0} (p : ℕ → Reader A) (R : Spelling A) (d : ℕ) (r : Read A) → Outcome p R d [] r → Example R
 unfolding bind one accept choose done many closed
 example_of p R d (Ok r) o = record { tokens = o.front; value = r.0; spelled = o.spelled }
 example_of p R d (Err left) o = record { tokens = o.front ++ o.more; value = o.value; spelled = o.completed }
@@ -115,7 +115,7 @@ module _ {A B : Type 0} (p : ℕ → Reader A) (f : ℕ → A → Reader B) (R :
   unfolding bind one accept choose done many closed
   both m = bind (p m) (f m)
 
-  second_of : (ts : List Token) (v : A) (rest : List Token) → ReadsOn p R d ts v rest
+  pub second_of : (ts : List Token) (v : A) (rest : List Token) → ReadsOn p R d ts v rest
       → (q : Read B) → Outcome (λ m. f m v) (S v) d rest q → Outcome (λ m. bind (p m) (f m)) (Then R S) d ts q
   unfolding bind one accept choose done many closed
   second_of ts v rest o (Ok x) o2 = record {
@@ -190,11 +190,11 @@ pub record IsOne (test : Test) (ts : List Token) (place : Place) : Type 0 where
   pub passes : test token.kind ≡ true
   pub stands : place ≡ token.place
 
-one_passes : (test : Test) (t : Token) (ts : List Token) → test t.kind ≡ true → one test (t ∷ ts) ≡ Ok (t.place, ts)
+pub one_passes : (test : Test) (t : Token) (ts : List Token) → test t.kind ≡ true → one test (t ∷ ts) ≡ Ok (t.place, ts)
 unfolding bind one accept choose done many closed
 one_passes test t ts e = ap (λ b. cond b (Ok (t.place, ts)) (Err (suc (length ts)))) e
 
-one_fails : (test : Test) (t : Token) (ts : List Token) → test t.kind ≡ false → one test (t ∷ ts) ≡ Err (suc (length ts))
+pub one_fails : (test : Test) (t : Token) (ts : List Token) → test t.kind ≡ false → one test (t ∷ ts) ≡ Err (suc (length ts))
 unfolding bind one accept choose done many closed
 one_fails test t ts e = ap (λ b. cond b (Ok (t.place, ts)) (Err (suc (length ts)))) e
 
@@ -339,29 +339,29 @@ module _ {A : Type 0} (test : Test) (p q : ℕ → Reader A) where
   chose_second t ts m e = ap (λ b. cond b (p m (t ∷ ts)) (q m (t ∷ ts))) e
 
   -- whatever list begins with this token is read by the first
-  first_along : (t : Token) (ts us : List Token) (m : ℕ) → test t.kind ≡ true → SameHead (t ∷ ts) us
+  pub first_along : (t : Token) (ts us : List Token) (m : ℕ) → test t.kind ≡ true → SameHead (t ∷ ts) us
       → choose test (p m) (q m) us ≡ p m us
   unfolding bind one accept choose done many closed
   first_along t ts [] m e same = absurd same
   first_along t ts (u ∷ us) m e same = chose_first u us m (subst (λ (z : Token). test z.kind ≡ true) same e)
 
-  second_along : (t : Token) (ts us : List Token) (m : ℕ) → test t.kind ≡ false → SameHead (t ∷ ts) us
+  pub second_along : (t : Token) (ts us : List Token) (m : ℕ) → test t.kind ≡ false → SameHead (t ∷ ts) us
       → choose test (p m) (q m) us ≡ q m us
   unfolding bind one accept choose done many closed
   second_along t ts [] m e same = absurd same
   second_along t ts (u ∷ us) m e same = chose_second u us m (subst (λ (z : Token). test z.kind ≡ false) same e)
 
-  nothing_along : (us : List Token) (m : ℕ) → SameHead [] us → choose test (p m) (q m) us ≡ q m us
+  pub nothing_along : (us : List Token) (m : ℕ) → SameHead [] us → choose test (p m) (q m) us ≡ q m us
   unfolding bind one accept choose done many closed
   nothing_along [] m same = refl
   nothing_along (u ∷ us) m same = absurd same
 
-along : (ts front rest later : List Token) → ts ≡ front ++ rest → SameHead rest later → SameHead ts (front ++ later)
+pub along : (ts front rest later : List Token) → ts ≡ front ++ rest → SameHead rest later → SameHead ts (front ++ later)
 unfolding bind one accept choose done many closed
 along ts front rest later e same = subst (λ z. SameHead z (front ++ later)) (sym e) (same_behind front rest later same)
 
 -- the outcome of a reader that goes on as another does wherever the first token is the same
-follow_outcome : {A : Type 0} (p q : ℕ → Reader A) (R : Spelling A) (d : ℕ) (ts : List Token)
+pub follow_outcome : {A : Type 0} (p q : ℕ → Reader A) (R : Spelling A) (d : ℕ) (ts : List Token)
     → ((m : ℕ) (us : List Token) → SameHead ts us → q m us ≡ p m us)
     → (r : Read A) → Outcome p R d ts r → Outcome q R d ts r
 unfolding bind one accept choose done many closed
@@ -416,14 +416,14 @@ abbrev pub HasToken : {A : Type 0} → Spelling A → Type 0
 HasToken {A} R = (xs : List Token) (v : A) → R xs v → 0 < length xs
 
 -- what the repeated reader keeps to, where it has as many turns as there are tokens
-record RepeatsOn {A : Type 0} (test : Test) (p : ℕ → Reader A) (R : Spelling A) (depth : ℕ) (ts : List Token) (value : List A) (rest : List Token) : Type 0 where
+pub record RepeatsOn {A : Type 0} (test : Test) (p : ℕ → Reader A) (R : Spelling A) (depth : ℕ) (ts : List Token) (value : List A) (rest : List Token) : Type 0 where
   front : List Token
   splits : ts ≡ front ++ rest
   spelled : Repeated R front value
   again : (m k : ℕ) → depth ≤ m → (later : List Token) → SameHead rest later → length (front ++ later) ≤ k
       → repeat k test (p m) (front ++ later) ≡ Ok (value, later)
 
-record RepeatStops {A : Type 0} (test : Test) (p : ℕ → Reader A) (R : Spelling A) (depth : ℕ) (ts : List Token) (left : ℕ) : Type 0 where
+pub record RepeatStops {A : Type 0} (test : Test) (p : ℕ → Reader A) (R : Spelling A) (depth : ℕ) (ts : List Token) (left : ℕ) : Type 0 where
   front : List Token
   rest : List Token
   splits : ts ≡ front ++ rest
