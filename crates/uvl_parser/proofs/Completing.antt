@@ -265,3 +265,17 @@ done_now = record { nothing = refl; gives = refl }
 pub part_last : {A B : Type 0} {R : Spelling A} {g : A → B} {xs : List Token} (v : A) → R xs v → Then R (λ a. IsDone (g a)) xs (g v)
 part_last {A} {B} {R} {g} {xs} v r =
     record { front = xs; back = []; middle = v; joins = sym (append-nil xs); first = r; second = done_now }
+
+-- ---- one level deeper
+
+complete_at : {A : Type 0} (p q : ℕ → Reader A) (R : Spelling A) (Stops : Rest) (d : ℕ)
+    → ((m : ℕ) (us : List Token) → p (suc m) us ≡ q m us) → Complete q R Stops d
+    → (m : ℕ) → suc d ≤ m → (xs : List Token) (v : A) (rest : List Token) → R xs v → Stops rest → p m (xs ++ rest) ≡ Ok (v, rest)
+complete_at p q R Stops d is c zero le xs v rest r stops = absurd (omega arith)
+complete_at p q R Stops d is c (suc m) le xs v rest r stops =
+    let within : d ≤ m = omega arith in is m (xs ++ rest) ∙ c.reads m within xs v rest r stops
+
+-- a reader that goes as another does one level above
+pub complete_deeper : {A : Type 0} (p q : ℕ → Reader A) (R : Spelling A) (Stops : Rest) (d : ℕ)
+    → ((m : ℕ) (us : List Token) → p (suc m) us ≡ q m us) → Complete q R Stops d → Complete p R Stops (suc d)
+complete_deeper p q R Stops d is c = record { reads = complete_at p q R Stops d is c }
