@@ -2,3 +2,4 @@
 pub mod Samples
 pub mod Refs
 pub mod Values
+pub mod Groups
