@@ -3,3 +3,4 @@ pub mod Readers
 pub mod Completing
 pub mod Turns
 pub mod Parts
+pub mod Opened
