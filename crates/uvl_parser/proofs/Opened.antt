@@ -1,5 +1,5 @@
 -- Behind an opening token there are fewer tokens left, and so more depth than what stands there can need.
-use Rattle.std.specs.Prelude.{◌≡◌, ℕ, zero, suc, ◌<◌, ◌≤◌, ◌⊎◌, Bool, true, false, cond, List, [], ◌∷◌, ◌++◌, length, Ok, Err}
+use Rattle.std.specs.Prelude.{◌≡◌, ℕ, zero, suc, ◌<◌, ◌≤◌, Bool, true, false, List, [], ◌∷◌, ◌++◌, length, Ok, Err}
 use Rattle.std.proofs.Common.{refl, sym, ap, subst, ◌∙◌, inl, inr, arith}
 use Rattle.uvl_base.specs.declared.place.Place.{Place}
 use Rattle.uvl_lexer.specs.declared.token.Token.{Token}
@@ -46,12 +46,12 @@ module _ {A : Type 0} (test : Test) (f : ℕ → Place → Reader A) (q : ℕ �
       subst (λ r. Outcome chosen Parts d (t ∷ ts) r)
       (sym (first_along test begun q t ts (t ∷ ts) d e (same_head (t ∷ ts)) ∙ begun_is t ts d e))
       (follow_outcome begun chosen Parts d (t ∷ ts) (λ m us same. first_along test begun q t ts us m e same) (f d t.place ts)
-        (weaken_outcome begun (Then (IsOne test) R) Parts d (t ∷ ts) (λ xs v r. inl r) (f d t.place ts) (opened_outcome t ts e h)))
+      (weaken_outcome begun (Then (IsOne test) R) Parts d (t ∷ ts) (λ xs v r. inl r) (f d t.place ts) (opened_outcome t ts e h)))
   chosen_token t ts h false e =
       subst (λ r. Outcome chosen Parts d (t ∷ ts) r)
       (sym (second_along test begun q t ts (t ∷ ts) d e (same_head (t ∷ ts))))
       (follow_outcome q chosen Parts d (t ∷ ts) (λ m us same. second_along test begun q t ts us m e same) (q d (t ∷ ts))
-        (weaken_outcome q S Parts d (t ∷ ts) (λ xs v r. inr r) (q d (t ∷ ts)) (other.at (t ∷ ts) h)))
+      (weaken_outcome q S Parts d (t ∷ ts) (λ xs v r. inr r) (q d (t ∷ ts)) (other.at (t ∷ ts) h)))
 
   chosen_list : (ts : List Token) → length ts < suc n → Outcome chosen Parts d ts (chosen d ts)
   unfolding chosen Parts
@@ -59,7 +59,7 @@ module _ {A : Type 0} (test : Test) (f : ℕ → Place → Reader A) (q : ℕ �
       subst (λ r. Outcome chosen Parts d [] r)
       (sym (nothing_along test begun q [] d tt))
       (follow_outcome q chosen Parts d [] (λ m us same. nothing_along test begun q us m same) (q d [])
-        (weaken_outcome q S Parts d [] (λ xs v r. inr r) (q d []) (other.at [] h)))
+      (weaken_outcome q S Parts d [] (λ xs v r. inr r) (q d []) (other.at [] h)))
   chosen_list (t ∷ ts) h = chosen_token t ts h (test t.kind) refl
 
   pub good_opened : Good (λ m. choose test (bind (one test) (f m)) (q m)) (Either (Then (IsOne test) R) S) d (suc n)
@@ -96,6 +96,7 @@ deeper_outcome p q R d ts is (Err left) o = record {
 -- a reader that goes as another does one level above
 pub good_deeper : {A : Type 0} (p q : ℕ → Reader A) (R : Spelling A) (d n : ℕ)
     → ((m : ℕ) (us : List Token) → p (suc m) us ≡ q m us) → Good q R d n → Good p R (suc d) n
-good_deeper p q R d n is good = record { at = λ ts h.
-  deeper_outcome p q R d ts is (p (suc d) ts) (subst (λ r. Outcome q R d ts r) (sym (is d ts)) (good.at ts h))
+good_deeper p q R d n is good = record {
+  at = λ ts h.
+      deeper_outcome p q R d ts is (p (suc d) ts) (subst (λ r. Outcome q R d ts r) (sym (is d ts)) (good.at ts h));
 }

@@ -1,5 +1,7 @@
 -- Each part of the grammar is read exactly: what a reader reads is spelled, and what is spelled is read.
 pub mod Samples
 pub mod Refs
+pub mod Expressions
 pub mod Values
 pub mod Groups
+pub mod Braces

@@ -1,6 +1,7 @@
 //! Tokens to syntax: the grammar of UVL files, and a parser that answers exactly what it spells.
 #![tactic(auto)]
 
+mod expression;
 mod fault;
 mod reading;
 mod reference;
