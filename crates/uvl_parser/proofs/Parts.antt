@@ -4,4 +4,5 @@ pub mod Refs
 pub mod Expressions
 pub mod Values
 pub mod Groups
+pub mod Beginnings
 pub mod Braces
