@@ -124,13 +124,14 @@ unfolding bind one accept choose done many closed
 has_token test R begins xs v r = begins_some test xs (begins xs v r)
 
 module _ {A : Type 0} (test : Test) (p : ℕ → Reader A) (R : Spelling A) (Stops : Rest) (d : ℕ)
-    (c : Complete p R Stops d) (begins : PartsBegin test R) (stops : (rest : List Token) → Begins test rest → Stops rest) where
+    (c : Complete p R Stops d) (begins : PartsBegin test R)
+    (at_part : (xs : List Token) (v : A) (rest : List Token) → R xs v → Stops (xs ++ rest)) where
   -- where parts or the rest follow, a part stops
   stops_there : {ys : List Token} {items : List A} → Repeated R ys items → (rest : List Token) → Stops rest → Stops (ys ++ rest)
   unfolding bind one accept choose done many closed
   stops_there None_more rest at_rest = at_rest
   stops_there (One_more {xs} {ys} {a} r rs) rest at_rest =
-      stops ((xs ++ ys) ++ rest) (begins_on test (xs ++ ys) rest (begins_on test xs ys (begins xs a r)))
+      subst Stops (sym (append_assoc xs ys rest)) (at_part xs a (ys ++ rest) r)
 
   turns_nothing : (m k : ℕ) (rest : List Token) → Avoids test rest → repeat k test (p m) rest ≡ Ok ([], rest)
   unfolding repeat bind one accept choose done many closed
@@ -229,7 +230,14 @@ module _ {d : ℕ} where
   pub many_complete : {A : Type 0} (test : Test) {p : ℕ → Reader A} {R : Spelling A} {Stops : Rest}
       → Complete p R Stops d → PartsBegin test R → ((rest : List Token) → Begins test rest → Stops rest)
       → Complete (λ m. many test (p m)) (Repeated R) (λ rest. Stops rest × Avoids test rest) d
-  many_complete {A} test {p} {R} {Stops} c begins stops = complete_many test p R Stops d c begins stops
+  many_complete {A} test {p} {R} {Stops} c begins stops =
+      complete_many test p R Stops d c begins (λ xs v rest r. stops (xs ++ rest) (begins_on test xs rest (begins xs v r)))
+
+  -- parts that stop in front of a part
+  pub parts_complete : {A : Type 0} (test : Test) {p : ℕ → Reader A} {R : Spelling A} {Stops : Rest}
+      → Complete p R Stops d → PartsBegin test R → ((xs : List Token) (v : A) (rest : List Token) → R xs v → Stops (xs ++ rest))
+      → Complete (λ m. many test (p m)) (Repeated R) (λ rest. Stops rest × Avoids test rest) d
+  parts_complete {A} test {p} {R} {Stops} c begins at_part = complete_many test p R Stops d c begins at_part
 
 -- ---- parts put together
 

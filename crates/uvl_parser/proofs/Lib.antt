@@ -2,6 +2,7 @@ pub mod TokenKinds
 pub mod Readers
 pub mod Completing
 pub mod Opened
+pub mod Deeper
 pub mod Turns
 pub mod Firsts
 pub mod Shaped

@@ -6,3 +6,4 @@ pub mod Values
 pub mod Groups
 pub mod Beginnings
 pub mod Braces
+pub mod Features

@@ -11,7 +11,7 @@ use Rattle.uvl_parser.specs.Shapes.{Spelling, Repeated, None_more, One_more, One
 use Rattle.uvl_parser.specs.Reading.{Reader, done, bind, one, accept, choose, many, one_or_more, behind_comma, separated, body}
 use Rattle.uvl_parser.proofs.TokenKinds.{symbol_kind, kind_symbol, indent_kind, dedent_kind}
 use Rattle.uvl_parser.proofs.Readers.{Good, Then, IsOne, IsAccepted, IsDone, Either, HasToken, then_good, spelled_so, done_good, many_good, choose_good, opened, taken, respell}
-use Rattle.uvl_parser.proofs.Completing.{Rest, Complete, Anything, Begins, Avoids, PartsBegin, one_complete, accept_complete, next_complete, then_complete, last_complete, done_complete, spelled_complete, stops_complete, many_complete, choose_complete, one_then, accept_then, part_then, part_last, done_now}
+use Rattle.uvl_parser.proofs.Completing.{Rest, Complete, Anything, Begins, Avoids, PartsBegin, one_complete, accept_complete, next_complete, then_complete, last_complete, done_complete, spelled_complete, stops_complete, many_complete, parts_complete, choose_complete, one_then, accept_then, part_then, part_last, done_now}
 use Rattle.uvl_parser.proofs.Parts.Samples.{symbol_good, indent_good, dedent_good}
 
 -- what stands in front of nothing
@@ -112,18 +112,15 @@ body_good {p} {R} good has = spelled_so (body_of R) (choose_good is_indent
 -- ---- what is spelled is read
 
 module _ {A : Type 0} (test : Test) {p : ℕ → Reader A} {R : Spelling A} {Stops : Rest} {d : ℕ}
-    (c : Complete p R Stops d) (begins : PartsBegin test R) (stops : (rest : List Token) → Begins test rest → Stops rest) where
+    (c : Complete p R Stops d) (begins : PartsBegin test R)
+    (at_part : (xs : List Token) (v : A) (rest : List Token) → R xs v → Stops (xs ++ rest)) where
   more_there : {ys : List Token} {items : List A} → Repeated R ys items → (rest : List Token) → Stops rest → Stops (ys ++ rest)
   more_there None_more rest at_rest = at_rest
-  more_there (One_more {xs} {ys} {a} r rs) rest at_rest = stops ((xs ++ ys) ++ rest) (begun_here xs ys rest (begins xs a r))
-    where
-      begun_here : (xs ys rest : List Token) → Begins test xs → Begins test ((xs ++ ys) ++ rest)
-      begun_here [] ys rest b = absurd b
-      begun_here (x ∷ xs) ys rest b = b
+  more_there (One_more {xs} {ys} {a} r rs) rest at_rest = subst Stops (sym (append_assoc xs ys rest)) (at_part xs a (ys ++ rest) r)
 
   pub one_or_more_complete : Complete (λ m. one_or_more test (p m)) (OneOrMore R) (λ rest. Stops rest × Avoids test rest) d
   unfolding one_or_more
-  one_or_more_complete = spelled_complete (one_or_more_parts R) (then_complete c (λ a. last_complete (many_complete test c begins stops))
+  one_or_more_complete = spelled_complete (one_or_more_parts R) (then_complete c (λ a. last_complete (parts_complete test c begins at_part))
     (λ a ys w rest t ends. subst (λ (z : List Token). Stops (z ++ rest)) (sym (with_nothing t.joins t.second.nothing)) (more_there t.first rest ends.0)))
 
 -- parts begin with a token that doesn't pass a test
@@ -169,7 +166,7 @@ module _ {A : Type 0} {p : ℕ → Reader A} {R : Spelling A} {d : ℕ} (c : Com
   pub body_complete : Complete (λ m. body (p m)) (Body R) (Avoids is_indent) d
   unfolding body
   body_complete = spelled_complete (body_parts R) (choose_complete is_indent
-    (next_complete one_complete (λ indent. then_complete (one_or_more_complete stays c begins (λ rest b. tt)) (λ items. next_complete one_complete (λ dedent. done_complete (Avoids is_indent)))
+    (next_complete one_complete (λ indent. then_complete (one_or_more_complete stays c begins (λ xs v rest r. tt)) (λ items. next_complete one_complete (λ dedent. done_complete (Avoids is_indent)))
       (λ items ys w rest t ends. (tt, dedents ys w rest t))))
     (done_complete (Avoids is_indent))
     (λ xs v rest t ends. indents xs v rest t)
