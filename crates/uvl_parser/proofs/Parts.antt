@@ -7,3 +7,5 @@ pub mod Groups
 pub mod Beginnings
 pub mod Braces
 pub mod Features
+pub mod Sections
+pub mod File
