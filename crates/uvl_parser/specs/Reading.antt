@@ -6,7 +6,7 @@ use Rattle.uvl_base.specs.declared.place.Place.{Place}
 use Rattle.uvl_lexer.specs.declared.token.Token.{Token}
 use Rattle.uvl_lexer.specs.declared.token.TokenKind.{TokenKind}
 use Rattle.uvl_lexer.specs.declared.token.Symbol.TheVariants as symbol
-use Rattle.uvl_parser.specs.Tests.{Test, is_symbol, is_indent, is_dedent, stays}
+use Rattle.uvl_parser.specs.Tests.{Test, is_symbol, is_indent, is_dedent, stays, begins}
 use Rattle.uvl_parser.specs.declared.reading.Stop.{Stop}
 use Rattle.uvl_parser.specs.declared.reading.Stop.TheVariants.{Stuck, OutOfMemory}
 
@@ -46,8 +46,7 @@ accept f (t ∷ ts) = accepted (f t.kind) t ts
 
 -- one of two readers, by the first token: the second where there is none
 unfoldable pub choose : {A : Type 0} → Test → Reader A → Reader A → Reader A
-choose test p q [] = q []
-choose test p q (t ∷ ts) = cond (test t.kind) (p (t ∷ ts)) (q (t ∷ ts))
+choose test p q ts = cond (begins test ts) (p ts) (q ts)
 
 -- none or more, while the first token passes a test, and at most so many
 unfoldable pub repeat : {A : Type 0} → ℕ → Test → Reader A → Reader (List A)
