@@ -1,2 +1,4 @@
 //! Expressions.
 mod level;
+mod opening;
+mod parts;

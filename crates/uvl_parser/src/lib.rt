@@ -3,6 +3,7 @@
 
 mod expression;
 mod fault;
+mod number;
 mod reading;
 mod reference;
 mod tokens;

@@ -2,3 +2,4 @@
 pub mod Spelled
 pub mod Read
 pub mod Whole
+pub mod Steps

@@ -139,5 +139,21 @@ comparison_within depth = compared (level_within level.Sum depth)
 
 -- ---- however deep they nest
 
+unfoldable pub of_level : Level → Reader Expr
+of_level l = closed (level_within l)
+
+unfoldable pub part_of : Level → Reader Expr
+part_of l = closed (part_within l)
+
+unfoldable pub comparison : Reader Expr
+comparison = closed comparison_within
+
+unfoldable pub operand : Reader Expr
+operand = closed operand_within
+
+unfoldable pub primary : Reader Expr
+primary = closed primary_within
+
+-- an expression
 unfoldable pub expression : Reader Expr
 expression = closed expression_within

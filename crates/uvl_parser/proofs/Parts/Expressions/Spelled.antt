@@ -48,7 +48,7 @@ pub record Has (operators : Operators) : Type 0 where
   pub named : BinOp
   pub is : operators kind ≡ Some named
 
-operation_good : {operators : Operators} {p : ℕ → Reader Expr} {R : Spelling Expr} {d n : ℕ} → Has operators → Good p R d n
+pub operation_good : {operators : Operators} {p : ℕ → Reader Expr} {R : Spelling Expr} {d n : ℕ} → Has operators → Good p R d n
     → Good (λ m. operation operators (p m)) (OperationParts operators R) d n
 unfolding operation
 operation_good {operators} {p} {R} {d} {n} has good =
@@ -158,11 +158,11 @@ parenthesized_good : {p : ℕ → Reader Expr} {Inner : Spelling Expr} {d n : �
 unfolding parenthesized
 parenthesized_good good = then_good good (λ e. then_good (symbol_good symbol.RightParen) (λ right. done_good))
 
-negative_good : (place : Place) {d n : ℕ} → Good (λ m. negative place) (Then (IsAccepted number_of) (λ value. IsDone (expr.Number (neg_ℤ value.0) place))) d n
+pub negative_good : (place : Place) {d n : ℕ} → Good (λ m. negative place) (Then (IsAccepted number_of) (λ value. IsDone (expr.Number (neg_ℤ value.0) place))) d n
 unfolding negative
 negative_good place = then_good number_good (λ value. done_good)
 
-total_good : (place : Place) {d n : ℕ} → Good (λ m. total place) (Then (IsOne (is_symbol symbol.LeftParen)) (λ left. Then (IsAccepted name_of) (λ key.
+pub total_good : (place : Place) {d n : ℕ} → Good (λ m. total place) (Then (IsOne (is_symbol symbol.LeftParen)) (λ left. Then (IsAccepted name_of) (λ key.
     Then (IsOne (is_symbol symbol.RightParen)) (λ right. IsDone (expr.Sum key.0 place))))) d n
 unfolding total
 total_good place = then_good (symbol_good symbol.LeftParen) (λ left. then_good name_good (λ key. then_good (symbol_good symbol.RightParen) (λ right. done_good)))
@@ -171,7 +171,7 @@ literal_good : {d n : ℕ} → Good (λ m. literal) LiteralParts d n
 unfolding literal
 literal_good = then_good number_good (λ value. done_good)
 
-named_good : {d n : ℕ} → Good (λ m. named) NamedParts d n
+pub named_good : {d n : ℕ} → Good (λ m. named) NamedParts d n
 unfolding named
 named_good = then_good reference_good (λ r. done_good)
 
@@ -187,25 +187,25 @@ primary_good {p} {Inner} {d} {n} good =
 
 -- ---- sums and comparisons
 
-iff_has : Has iff_operator
+pub iff_has : Has iff_operator
 iff_has = record { kind = token.Symbol symbol.Iff; named = op.Iff; is = refl }
 
-implies_has : Has implies_operator
+pub implies_has : Has implies_operator
 implies_has = record { kind = token.Symbol symbol.Implies; named = op.Implies; is = refl }
 
-or_has : Has or_operator
+pub or_has : Has or_operator
 or_has = record { kind = token.Symbol symbol.Bar; named = op.Or; is = refl }
 
-and_has : Has and_operator
+pub and_has : Has and_operator
 and_has = record { kind = token.Symbol symbol.Amp; named = op.And; is = refl }
 
 comparison_has : Has comparison_operator
 comparison_has = record { kind = token.Symbol symbol.Less; named = op.Less; is = refl }
 
-sum_has : Has sum_operator
+pub sum_has : Has sum_operator
 sum_has = record { kind = token.Symbol symbol.Plus; named = op.Plus; is = refl }
 
-product_has : Has product_operator
+pub product_has : Has product_operator
 product_has = record { kind = token.Symbol symbol.Star; named = op.Times; is = refl }
 
 pub sum_good : {p : ℕ → Reader Expr} {Inner : Spelling Expr} {d n : ℕ} → Good p Inner d n → Good (λ m. sum_of (p m)) (SpellsSum Inner) d (suc n)
