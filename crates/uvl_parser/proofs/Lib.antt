@@ -1,6 +1,9 @@
 pub mod TokenKinds
 pub mod Readers
 pub mod Completing
-pub mod Turns
-pub mod Parts
 pub mod Opened
+pub mod Deeper
+pub mod Turns
+pub mod Firsts
+pub mod Shaped
+pub mod Parts

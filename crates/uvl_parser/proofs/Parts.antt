@@ -2,3 +2,10 @@
 pub mod Samples
 pub mod Refs
 pub mod Expressions
+pub mod Values
+pub mod Groups
+pub mod Beginnings
+pub mod Braces
+pub mod Features
+pub mod Sections
+pub mod File

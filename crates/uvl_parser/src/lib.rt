@@ -7,5 +7,6 @@ mod number;
 mod reading;
 mod reference;
 mod tokens;
+mod values;
 
 pub use fault::ParseFault;
