@@ -3,3 +3,4 @@ pub mod Spelled
 pub mod Read
 pub mod Whole
 pub mod Steps
+pub mod Ranks

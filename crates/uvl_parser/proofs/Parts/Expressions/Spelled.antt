@@ -15,6 +15,7 @@ use Rattle.uvl_parser.specs.Tokens.{name_of, number_of}
 use Rattle.uvl_parser.specs.Tests.{is_symbol, is_word}
 use Rattle.uvl_parser.specs.Shapes.{Spelling, Repeated, None_more, One_more}
 use Rattle.uvl_parser.specs.Refs.{SpellsRef}
+use Rattle.uvl_parser.specs.Refs as refs
 use Rattle.uvl_parser.specs.Expressions.{Operators, iff_operator, implies_operator, or_operator, and_operator, comparison_operator, sum_operator, product_operator, Grouped, Alone, Joined, Connected, SpellsPrimary, Parentheses, Literal, Negative, Sum, Reference, SpellsSum, SpellsComparison, Compared, Not_compared, SpellsOperand, Opposite, Comparison, OperandWithin, ExprWithin}
 use Rattle.uvl_parser.specs.Reading.{Reader}
 use Rattle.uvl_parser.specs.Readers.Expressions.{Operation, is_operator, operation, join, joined, grouped, parenthesized, negative, total, literal, named, is_number, primary_of, compared, sum_of, opposite, connected, operand_of, operand_within, expression_within, primary_within}
@@ -100,6 +101,9 @@ TotalParts = Then (IsOne (is_word word.Sum)) (λ place. Then (IsOne (is_symbol s
 abbrev pub LiteralParts : Spelling Expr
 LiteralParts = Then (IsAccepted number_of) (λ value. IsDone (expr.Number value.0 value.1))
 
+reference_has_token : HasToken SpellsRef
+reference_has_token xs r (refs.Reference t is names) = omega arith
+
 abbrev pub NamedParts : Spelling Expr
 NamedParts = Then SpellsRef (λ r. IsDone (expr.Name r))
 
@@ -170,6 +174,9 @@ total_good place = then_good (symbol_good symbol.LeftParen) (λ left. then_good 
 literal_good : {d n : ℕ} → Good (λ m. literal) LiteralParts d n
 unfolding literal
 literal_good = then_good number_good (λ value. done_good)
+
+pub named_has_token : HasToken NamedParts
+named_has_token xs e t = let r = made t in reference_has_token xs r.part r.spelled
 
 pub named_good : {d n : ℕ} → Good (λ m. named) NamedParts d n
 unfolding named

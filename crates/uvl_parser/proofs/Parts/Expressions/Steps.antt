@@ -1,7 +1,9 @@
 -- Expressions: the steps of reading them, each in the words of the readers that need no depth.
-use Rattle.std.specs.Prelude.{◌≡◌, ℕ, zero, suc, ◌+◌, ◌-◌, ◌<◌, ◌≤◌, Bool, true, false, cond, List, [], ◌∷◌, ◌++◌, length, Ok, Err, Option, Some, None}
+use Rattle.std.specs.Prelude.{◌≡◌, ℕ, zero, suc, ◌+◌, ◌-◌, ◌<◌, ◌≤◌, Bool, true, false, cond, List, [], ◌∷◌, ◌++◌, length, Result, Ok, Err, IfOk, Option, Some, None}
+use Rattle.std.specs.Borrow.{Bor}
+use Rattle.uvl_parser.specs.declared.reading.Stop.{Stop}
 use Rattle.std.specs.Result.{result_ok}
-use Rattle.std.proofs.Common.{refl, sym, ap, subst, ◌∙◌, arith}
+use Rattle.std.proofs.Common.{refl, sym, ap, subst, ◌∙◌, arith, length-append}
 use Rattle.uvl_base.specs.declared.place.Place.{Place}
 use Rattle.uvl_lexer.specs.declared.token.Token.{Token}
 use Rattle.uvl_lexer.specs.declared.token.TokenKind.{TokenKind}
@@ -19,10 +21,11 @@ use Rattle.uvl_parser.specs.Openings.{opening_of}
 use Rattle.uvl_parser.specs.Tests.{Test, is_symbol, begins, is_there}
 use Rattle.uvl_parser.specs.Shapes.{Spelling}
 use Rattle.uvl_parser.specs.Expressions.{Operators, iff_operator, implies_operator, or_operator, and_operator, comparison_operator, sum_operator, product_operator, Grouped, OperandWithin}
-use Rattle.uvl_parser.specs.Reading.{Read, Reader, ◌>>=◌, done, bind, one, accept, accepted, choose, repeat, many, closed}
+use Rattle.uvl_parser.specs.Reading.{Read, Reader, ◌>>=◌, done, bind, one, accept, accepted, choose, repeat, many, closed, Gives}
+use Rattle.uvl_parser.specs.Readers.Refs.{reference}
 use Rattle.uvl_parser.specs.Readers.Expressions.{Operation, is_operator, operation, join, joined, grouped, parenthesized, negative, total, literal, named, primary_of, compared, opposite, operand_of, operand_within, expression_within, primary_within, operators_of, part_within, level_within, comparison_within, of_level, part_of, comparison, operand, primary, expression}
 use Rattle.uvl_parser.proofs.Readers.{Good, Outcome, HasToken, settle}
-use Rattle.uvl_parser.proofs.Parts.Expressions.Spelled.{PrimaryWithin, grouped_good, operand_within_good, primary_within_good, iff_has, implies_has, or_has, and_has, sum_has, product_has}
+use Rattle.uvl_parser.proofs.Parts.Expressions.Spelled.{NamedParts, negative_good, total_good, named_good, named_has_token, PrimaryWithin, grouped_good, operand_within_good, primary_within_good, iff_has, implies_has, or_has, and_has, sum_has, product_has}
 
 -- ---- how many tokens are left
 
@@ -193,39 +196,45 @@ pub level_ends : (l : Level) (tokens : List Token) (left : Expr) (turns : ℕ) (
 level_ends l tokens left turns rest goes e =
     sym goes.whole ∙ turns_end (operators_of l) (part_within l (suc (length tokens))) left turns rest (no_operator (operators_of l) rest e)
 
-pub level_over : (l : Level) (tokens : List Token) (left : Expr) (turns : ℕ) (rest : List Token) → Goes l tokens left turns rest
-    → turns ≡ 0 → of_level l tokens ≡ Ok (left, rest)
-level_over l tokens left turns rest goes e =
-    sym goes.whole ∙ turns_out (operators_of l) (part_within l (suc (length tokens))) left turns rest e
+pub level_over : (l : Level) (tokens : List Token) (left : Expr) (end turn : ℕ) (rest : List Token) → Goes l tokens left (end - turn) rest
+    → end ≤ turn → of_level l tokens ≡ Ok (left, rest)
+level_over l tokens left end turn rest goes over =
+    let none : end - turn ≡ 0 = omega arith in
+    sym goes.whole ∙ turns_out (operators_of l) (part_within l (suc (length tokens))) left (end - turn) rest none
 
-pub level_goes : (l : Level) (tokens : List Token) (left : Expr) (turns next : ℕ) (rest : List Token) (o : BinOp) (place : Place) (behind : List Token)
-    (right : Expr) (after : List Token) → Goes l tokens left turns rest → turns ≡ suc next
+-- a turn takes an operator and its operand
+pub level_goes : (l : Level) (tokens : List Token) (left later : Expr) (end turn : ℕ) (rest : List Token) (o : BinOp) (place : Place) (behind : List Token)
+    (right : Expr) (after : List Token) → Goes l tokens left (end - turn) rest → turn < end
     → Some ((o, place), behind) ≡ result_ok (accept (operators_of l) rest) → part_of l behind ≡ Ok (right, after) → length after < length behind
-    → Goes l tokens (expr.Binary o left right place) next after
-level_goes l tokens left turns next rest o place behind right after goes counts e reads h =
+    → later ≡ expr.Binary o left right place → Goes l tokens later (end - (turn + 1)) after
+level_goes l tokens left later end turn rest o place behind right after goes within e reads h joins =
     let is = some_operator (operators_of l) rest (o, place) behind e in
     let fewer : length rest ≡ suc (length behind) = accept_takes (operators_of l) rest (o, place) behind is in
-    let within : length behind < suc (length tokens) = omega (arith, goes.shorter) in
+    let inside : length behind < suc (length tokens) = omega (arith, goes.shorter) in
+    let counts : end - turn ≡ suc (end - (turn + 1)) = omega arith in
     record {
       whole =
-          sym (turn_reads (operators_of l) (part_within l (suc (length tokens))) left next rest (o, place) behind right after is
-            (part_settled l behind (suc (length tokens)) within ∙ reads))
+          ap (λ z. behind_left z (repeat (end - (turn + 1)) (is_operator (operators_of l)) (operation (operators_of l) (part_within l (suc (length tokens)))) after)) joins
+          ∙ sym (turn_reads (operators_of l) (part_within l (suc (length tokens))) left (end - (turn + 1)) rest (o, place) behind right after is
+            (part_settled l behind (suc (length tokens)) inside ∙ reads))
           ∙ ap (λ z. behind_left left (repeat z (is_operator (operators_of l)) (operation (operators_of l) (part_within l (suc (length tokens)))) rest)) (sym counts)
           ∙ goes.whole;
       shorter = omega (arith, goes.shorter);
     }
 
-pub level_stops : (l : Level) (tokens : List Token) (left : Expr) (turns next : ℕ) (rest : List Token) (o : BinOp) (place : Place) (behind : List Token)
-    (left_over : ℕ) → Goes l tokens left turns rest → turns ≡ suc next
+-- or stops at its operand
+pub level_stops : (l : Level) (tokens : List Token) (left : Expr) (end turn : ℕ) (rest : List Token) (o : BinOp) (place : Place) (behind : List Token)
+    (left_over : ℕ) → Goes l tokens left (end - turn) rest → turn < end
     → Some ((o, place), behind) ≡ result_ok (accept (operators_of l) rest) → part_of l behind ≡ Err left_over → of_level l tokens ≡ Err left_over
-level_stops l tokens left turns next rest o place behind left_over goes counts e stops =
+level_stops l tokens left end turn rest o place behind left_over goes within e stops =
     let is = some_operator (operators_of l) rest (o, place) behind e in
     let fewer : length rest ≡ suc (length behind) = accept_takes (operators_of l) rest (o, place) behind is in
-    let within : length behind < suc (length tokens) = omega (arith, goes.shorter) in
+    let inside : length behind < suc (length tokens) = omega (arith, goes.shorter) in
+    let counts : end - turn ≡ suc (end - (turn + 1)) = omega arith in
     sym goes.whole
     ∙ ap (λ z. behind_left left (repeat z (is_operator (operators_of l)) (operation (operators_of l) (part_within l (suc (length tokens)))) rest)) counts
-    ∙ turn_stops (operators_of l) (part_within l (suc (length tokens))) left next rest (o, place) behind left_over is
-      (part_settled l behind (suc (length tokens)) within ∙ stops)
+    ∙ turn_stops (operators_of l) (part_within l (suc (length tokens))) left (end - (turn + 1)) rest (o, place) behind left_over is
+      (part_settled l behind (suc (length tokens)) inside ∙ stops)
 
 -- ---- comparisons
 
@@ -286,9 +295,10 @@ comparison_more tokens left rest o place behind e h f =
 pub comparison_reads : (tokens : List Token) (left : Expr) (rest : List Token) (o : BinOp) (place : Place) (behind : List Token) (right : Expr) (after : List Token)
     → of_level level.Sum tokens ≡ Ok (left, rest) → length rest < length tokens
     → Some ((o, place), behind) ≡ result_ok (accept comparison_operator rest) → of_level level.Sum behind ≡ Ok (right, after)
-    → comparison tokens ≡ Ok (expr.Binary o left right place, after)
-comparison_reads tokens left rest o place behind right after e h f g =
+    → (whole : Expr) → whole ≡ expr.Binary o left right place → comparison tokens ≡ Ok (whole, after)
+comparison_reads tokens left rest o place behind right after e h f g whole joins =
     comparison_more tokens left rest o place behind e h f ∙ ap (λ r. r >>= λ y. Ok (expr.Binary o left y.0 place, y.1)) g
+    ∙ ap (λ z. Ok (z, after)) (sym joins)
 
 pub comparison_stops : (tokens : List Token) (left : Expr) (rest : List Token) (o : BinOp) (place : Place) (behind : List Token) (left_over : ℕ)
     → of_level level.Sum tokens ≡ Ok (left, rest) → length rest < length tokens
@@ -326,8 +336,9 @@ operand_more tokens place rest e f =
 
 pub operand_reads : (tokens : List Token) (place : Place) (rest : List Token) (inner : Expr) (after : List Token)
     → begins (is_symbol symbol.Bang) tokens ≡ true → one (is_symbol symbol.Bang) tokens ≡ Ok (place, rest) → operand rest ≡ Ok (inner, after)
-    → operand tokens ≡ Ok (expr.Not inner place, after)
-operand_reads tokens place rest inner after e f g = operand_more tokens place rest e f ∙ ap (λ r. r >>= λ z. Ok (expr.Not z.0 place, z.1)) g
+    → (boxed : Expr) → boxed ≡ inner → operand tokens ≡ Ok (expr.Not boxed place, after)
+operand_reads tokens place rest inner after e f g boxed same =
+    operand_more tokens place rest e f ∙ ap (λ r. r >>= λ z. Ok (expr.Not z.0 place, z.1)) g ∙ ap (λ z. Ok (expr.Not z place, after)) (sym same)
 
 pub operand_stops : (tokens : List Token) (place : Place) (rest : List Token) (left : ℕ)
     → begins (is_symbol symbol.Bang) tokens ≡ true → one (is_symbol symbol.Bang) tokens ≡ Ok (place, rest) → operand rest ≡ Err left
@@ -355,7 +366,7 @@ primary_opened inner (token.Word _) place from to rest = refl
 primary_opened inner (token.Number value whole) place from to rest = refl
 primary_opened inner _ place from to rest = refl
 
-pub primary_opens : (t : Token) (rest : List Token) → primary (t ∷ rest) ≡ Opened (opening_of t.kind) expression t rest
+primary_opens : (t : Token) (rest : List Token) → primary (t ∷ rest) ≡ Opened (opening_of t.kind) expression t rest
 unfolding primary closed primary_within expression parenthesized bind
 primary_opens t rest = primary_opened (expression_within (suc (length rest))) t.kind t.place t.from t.to rest ∙ along (opening_of t.kind)
   where
@@ -365,3 +376,49 @@ primary_opens t rest = primary_opened (expression_within (suc (length rest))) t.
     along opens.Sum = refl
     along (opens.Number value) = refl
     along opens.Other = refl
+
+-- by what the first token says
+pub primary_by : (tokens : List Token) (t : Token) (rest : List Token) (opening : Opening) → tokens ≡ t ∷ rest → opening ≡ opening_of t.kind
+    → primary tokens ≡ Opened opening expression t rest
+primary_by tokens t rest opening e f = ap primary e ∙ primary_opens t rest ∙ ap (λ o. Opened o expression t rest) (sym f)
+
+pub primary_of_nothing : (tokens : List Token) → length tokens ≡ 0 → primary tokens ≡ Err 0
+unfolding primary closed primary_within primary_of choose named bind reference accept
+primary_of_nothing [] e = refl
+primary_of_nothing (t ∷ ts) e = absurd (omega arith)
+
+-- ---- what the readers of parts leave
+
+outcome_leaves : {A : Type 0} (p : ℕ → Reader A) (R : Spelling A) (d : ℕ) (ts : List Token) (r : Read A) → Outcome p R d ts r
+    → (v : A) (rest : List Token) → r ≡ Ok (v, rest) → (front : List Token) × (ts ≡ front ++ rest) × R front v
+outcome_leaves p R d ts (Ok x) o v rest e =
+    let same : x ≡ (v, rest) = cc in
+    (o.front, o.splits ∙ ap (λ z. o.front ++ z.1) same, subst (λ z. R o.front z) (ap (λ z. z.0) same) o.spelled)
+outcome_leaves p R d ts (Err left) o v rest e = absurd (cc)
+
+-- what is read leaves no more tokens
+pub no_longer : {A : Type 0} (p : ℕ → Reader A) (R : Spelling A) (d : ℕ) (ts : List Token) → Good p R d (suc (length ts))
+    → (v : A) (rest : List Token) → p d ts ≡ Ok (v, rest) → length rest ≤ length ts
+no_longer p R d ts good v rest e =
+    let parts = outcome_leaves p R d ts (p d ts) (good.at ts (omega arith)) v rest e in
+    omega (arith, ap length parts.1, length-append parts.0 rest)
+
+pub negative_shorter : (place : Place) (ts : List Token) (v : Expr) (rest : List Token) → negative place ts ≡ Ok (v, rest) → length rest ≤ length ts
+negative_shorter place ts v rest e = no_longer (λ m. negative place) _ 0 ts (negative_good place) v rest e
+
+pub total_shorter : (place : Place) (ts : List Token) (v : Expr) (rest : List Token) → total place ts ≡ Ok (v, rest) → length rest ≤ length ts
+total_shorter place ts v rest e = no_longer (λ m. total place) _ 0 ts (total_good place) v rest e
+
+pub named_shorter : (ts : List Token) (v : Expr) (rest : List Token) → named ts ≡ Ok (v, rest) → length rest < length ts
+named_shorter ts v rest e =
+    let n = suc (length ts) in
+    let good : Good (λ m. named) NamedParts 0 n = named_good in
+    let parts = outcome_leaves (λ m. named) NamedParts 0 ts (named ts) (good.at ts (omega arith)) v rest e in
+    let some = named_has_token parts.0 v parts.2 in
+    omega (arith, ap length parts.1, length-append parts.0 rest)
+
+-- a clause on what is left, from what is read
+pub leaves : {X : Type 0} (n : ℕ) (result : Result (X × Bor (List Token)) Stop) (reading : Read X) → Gives (λ r. (r.0, r.1.now)) result reading
+    → ((v : X) (rest : List Token) → reading ≡ Ok (v, rest) → length rest < n) → IfOk result (λ r. length r.1.now < n)
+leaves n (Ok r) reading gives shorter = shorter r.0 r.1.now gives
+leaves n (Err e) reading gives shorter = tt
