@@ -1,6 +1,6 @@
 //! The fronts of groups:
 //! `kind = "mandatory" | "optional" | "alternative" | "or" | "[" whole "]" | "[" whole ".." (whole | "*") "]"`.
-ghost use Rattle.std.specs.Prelude.{◌≡◌, Ok, Err, Some, None};
+ghost use Rattle.std.specs.Prelude.{◌≡◌, true, Ok, Err, Some, None};
 ghost use Rattle.uvl_parser.specs.Tokens.{whole_of, whole_value};
 ghost use Rattle.uvl_parser.specs.Reading.{Gives, accept};
 ghost use Rattle.uvl_parser.specs.Readers.Groups.{kind_of, upper, range_from, range, group_front};
