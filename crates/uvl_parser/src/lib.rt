@@ -3,6 +3,7 @@
 
 mod expression;
 mod fault;
+mod groups;
 mod number;
 mod reading;
 mod reference;

@@ -1,5 +1,5 @@
 -- Attributes and their values are read exactly.
-use Rattle.std.specs.Prelude.{◌≡◌, ℕ, zero, suc, ◌<◌, ◌⊎◌, Bool, true, false, not, List, [], ◌∷◌, ◌++◌, length, Err, ℤ, neg_ℤ, Option, Some, None}
+use Rattle.std.specs.Prelude.{◌≡◌, ℕ, zero, suc, ◌<◌, ◌-◌, ◌⊎◌, Bool, true, false, not, List, [], ◌∷◌, ◌++◌, length, Err, ℤ, neg_ℤ, Option, Some, None}
 use Rattle.std.proofs.Common.{refl, sym, ap, subst, ◌∙◌, inl, inr, arith}
 use Rattle.uvl_base.specs.declared.place.Place.{Place}
 use Rattle.uvl_lexer.specs.declared.token.Token.{Token}
@@ -324,3 +324,9 @@ value_at_complete (suc d) = complete_deeper value_at (λ m. value_with (value_at
 pub plain_complete : {d : ℕ} → Complete (λ m. attribute) SpellsPlain (Avoids begins_value) d
 plain_complete {d} = complete_closed attribute_at (λ depth. SpellsAttribute (ValueWithin depth)) (Avoids begins_value) attribute_at_good
     (λ depth. attribute_complete (value_at_complete depth) (within_begins depth)) d
+
+-- one level deeper
+pub value_above : (depth : ℕ) (ts : List Token) → 0 < depth → value_at depth ts ≡ value_with (value_at (depth - 1)) ts
+unfolding value_at
+value_above zero ts some = absurd (omega arith)
+value_above (suc depth) ts some = let below : suc depth - 1 ≡ depth = omega arith in ap (λ d. value_with (value_at d) ts) (sym below)
