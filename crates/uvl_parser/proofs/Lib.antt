@@ -8,3 +8,4 @@ pub mod Keeping
 pub mod Firsts
 pub mod Shaped
 pub mod Parts
+pub mod LevelTexts

@@ -7,6 +7,7 @@ mod expression;
 mod fault;
 mod features;
 mod groups;
+mod levels;
 mod number;
 mod reading;
 mod reference;

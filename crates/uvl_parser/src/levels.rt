@@ -1,0 +1,257 @@
+//! The lines of `include`. The text of a line is the spelling of its tokens.
+ghost use Rattle.std.specs.Prelude.{◌≡◌, ◌++◌, Ok, Err, IfOk, OnOk, chars, string_bytes};
+ghost use Rattle.std.specs.Option.{option_map};
+ghost use Rattle.uvl_lexer.specs.declared.token.TokenKind.TheVariants as token;
+ghost use Rattle.uvl_lexer.specs.declared.token.Word.TheVariants.{Include};
+ghost use Rattle.uvl_parser.specs.Tokens.{characters_of_word};
+ghost use Rattle.uvl_parser.specs.Tests.{stays, begins};
+ghost use Rattle.uvl_parser.specs.Sections.{level_part, written_name};
+ghost use Rattle.uvl_parser.specs.Reading.{Gives, many, one_or_more, body, with_front};
+ghost use Rattle.uvl_parser.specs.Readers.Sections.{section, level, level_token, is_level_part};
+ghost use Rattle.uvl_parser.specs.Readers.Levels.{text_onto, texts_onto, line_text, level_text, Pushes};
+
+use crate::reading::Stop;
+use crate::tokens::{begins_with_indent, begins_with_word, dedent, indent, newline, stays, word};
+use sqlite_items::Items;
+use std::alloc::{AllocError, Global};
+use uvl_base::Text;
+use uvl_lexer::{Symbol, Token, TokenKind, Word};
+
+/// Puts a text behind another.
+fn push_text(into: &mut String, text: &str) -> Result<(), AllocError>
+    ensures { OnOk result (chars (string_bytes into.new) ≡ chars (string_bytes into.old) ++ chars text.now) }
+{
+    into.push_str(text)
+}
+
+/// Puts a name behind a text, with its quotes where it has them.
+fn push_name(into: &mut String, name: &str, quoted: bool) -> Result<(), AllocError>
+    ensures { OnOk result (chars (string_bytes into.new) ≡ chars (string_bytes into.old) ++ written_name (chars name.now) quoted) }
+{
+    if !quoted {
+        return push_text(into, name);
+    }
+    push_text(into, "\"")?;
+    push_text(into, name)?;
+    push_text(into, "\"")
+}
+
+/// The spelling of a reserved word.
+fn word_text(word: Word) -> &'static str
+    ensures { result.now ≡ characters_of_word word }
+{
+    match word {
+        Word::Namespace => "namespace",
+        Word::Include => "include",
+        Word::Imports => "imports",
+        Word::As => "as",
+        Word::Features => "features",
+        Word::Constraints => "constraints",
+        Word::Constraint => "constraint",
+        Word::Mandatory => "mandatory",
+        Word::Optional => "optional",
+        Word::Alternative => "alternative",
+        Word::Or => "or",
+        Word::Cardinality => "cardinality",
+        Word::Sum => "sum",
+        Word::Avg => "avg",
+        Word::Len => "len",
+        Word::Floor => "floor",
+        Word::Ceil => "ceil",
+        Word::True => "true",
+        Word::False => "false",
+        Word::Boolean => "Boolean",
+        Word::String => "String",
+        Word::Integer => "Integer",
+        Word::Real => "Real",
+    }
+}
+
+/// The spelling of a symbol that may stand in a level.
+fn symbol_text(symbol: Symbol) -> Option<&'static str>
+    ensures { option_map (λ t. t.now) result ≡ level_part (token.Symbol symbol) }
+{
+    match symbol {
+        Symbol::Dot => Some("."),
+        Symbol::Minus => Some("-"),
+        Symbol::Star => Some("*"),
+        _ => None,
+    }
+}
+
+/// Puts the spelling of a token behind a text, where it may stand in a level, and says whether.
+fn push_part(into: &mut String, kind: &TokenKind) -> Result<bool, AllocError>
+    ensures { IfOk result (λ pushed. Pushes (level_part kind.now) pushed (chars (string_bytes into.old)) (chars (string_bytes into.new))) }
+{
+    match kind {
+        TokenKind::Name { name, quoted } => {
+            push_name(into, name.text(), *quoted)?;
+            Ok(true)
+        }
+        TokenKind::Word(word) => {
+            push_text(into, word_text(*word))?;
+            Ok(true)
+        }
+        TokenKind::Symbol(symbol) => push_symbol(into, *symbol),
+        _ => Ok(false),
+    }
+}
+
+fn push_symbol(into: &mut String, symbol: Symbol) -> Result<bool, AllocError>
+    ensures { IfOk result (λ pushed. Pushes (level_part (token.Symbol symbol)) pushed (chars (string_bytes into.old)) (chars (string_bytes into.new))) }
+{
+    match symbol_text(symbol) {
+        Some(text) => {
+            push_text(into, text)?;
+            Ok(true)
+        }
+        None => Ok(false),
+    }
+}
+
+/// Reads a token of a level, and puts its spelling behind a text.
+fn level_token<'a>(into: &mut String, tokens: &'a [Token]) -> Result<&'a [Token], Stop>
+    ensures { Gives (λ rest. (chars (string_bytes into.new), rest.now)) result (text_onto (chars (string_bytes into.old)) (level_token tokens.now)) }
+{
+    let Some((first, rest)) = tokens.split_first() else {
+        return Err(Stop::Stuck { left: 0 });
+    };
+    if push_part(into, &first.kind)? {
+        Ok(rest)
+    } else {
+        Err(Stop::Stuck { left: tokens.len() })
+    }
+}
+
+/// Whether the first token may stand in a level.
+fn begins_level_part(tokens: &[Token]) -> bool
+    ensures { result ≡ begins is_level_part tokens.now }
+{
+    match tokens.split_first() {
+        Some((first, _)) => is_level_part(&first.kind),
+        None => false,
+    }
+}
+
+fn is_level_part(kind: &TokenKind) -> bool
+    ensures { result ≡ is_level_part kind.now }
+{
+    match kind {
+        TokenKind::Name { .. } | TokenKind::Word(_) => true,
+        TokenKind::Symbol(symbol) => is_level_symbol(*symbol),
+        _ => false,
+    }
+}
+
+fn is_level_symbol(symbol: Symbol) -> bool
+    ensures { result ≡ is_level_part (token.Symbol symbol) }
+{
+    match symbol {
+        Symbol::Dot | Symbol::Minus | Symbol::Star => true,
+        _ => false,
+    }
+}
+
+/// Reads the tokens of a level as long as there are any, and puts their spellings behind a text.
+fn more_tokens<'a>(into: &mut String, tokens: &'a [Token]) -> Result<&'a [Token], Stop>
+    ensures { Gives (λ rest. (chars (string_bytes into.new), rest.now)) result (texts_onto (chars (string_bytes into.old)) (many is_level_part level_token tokens.now)) }
+{
+    let mut rest = tokens;
+    for _turn in 0..tokens.len() {
+        if !begins_level_part(rest) {
+            return Ok(rest);
+        }
+        let behind = level_token(into, rest)?;
+        rest = behind;
+    }
+    Ok(rest)
+}
+
+/// Reads the text of a level.
+#[tactic(auto, unfolding(crate::specs::Readers::Levels::line_text))]
+fn line_text(alloc: Global, tokens: &[Token]) -> Result<(String, &[Token]), Stop>
+    ensures { Gives (λ r. (chars (string_bytes r.0), r.1.now)) result (line_text tokens.now) }
+{
+    let mut text = String::new(alloc);
+    let behind = level_token(&mut text, tokens)?;
+    let rest = more_tokens(&mut text, behind)?;
+    Ok((text, rest))
+}
+
+/// Reads a line of `include` by its text.
+#[tactic(auto, unfolding(crate::specs::Readers::Levels::level_text, crate::specs::Reading::bind, crate::specs::Reading::done))]
+fn level_text(alloc: Global, tokens: &[Token]) -> Result<(Text, &[Token]), Stop>
+    ensures { Gives (λ r. (r.0, r.1.now)) result (level_text tokens.now) }
+{
+    let (text, rest) = line_text(alloc, tokens)?;
+    let (_, rest) = newline(rest)?;
+    Ok((Text::from(text), rest))
+}
+
+/// Reads a line of `include`.
+fn level(alloc: Global, tokens: &[Token]) -> Result<(Text, &[Token]), Stop>
+    ensures { Gives (λ r. (r.0, r.1.now)) result (level tokens.now) }
+{
+    level_text(alloc, tokens)
+}
+
+/// Reads lines of `include` as long as the level of indentation goes on.
+fn more_levels<'a>(
+    alloc: Global,
+    levels: &mut Items<Text>,
+    tokens: &'a [Token],
+) -> Result<&'a [Token], Stop>
+    ensures { Gives (λ rest. (levels.new, rest.now)) result (with_front levels.old (many stays level tokens.now)) }
+{
+    let mut rest = tokens;
+    for _turn in 0..tokens.len() {
+        if !stays(rest) {
+            return Ok(rest);
+        }
+        let (next, behind) = level(alloc, rest)?;
+        levels.push(next)?;
+        rest = behind;
+    }
+    Ok(rest)
+}
+
+/// Reads one or more lines of `include`.
+#[tactic(auto, unfolding(crate::specs::Reading::one_or_more, crate::specs::Reading::bind, crate::specs::Reading::done))]
+fn some_levels(alloc: Global, tokens: &[Token]) -> Result<(Items<Text>, &[Token]), Stop>
+    ensures { Gives (λ r. (r.0, r.1.now)) result (one_or_more stays level tokens.now) }
+{
+    let (first, rest) = level(alloc, tokens)?;
+    let mut levels = Items::new(alloc);
+    levels.push(first)?;
+    let rest = more_levels(alloc, &mut levels, rest)?;
+    Ok((levels, rest))
+}
+
+/// Reads lines of `include` that are indented by a level, or nothing.
+#[tactic(auto, unfolding(crate::specs::Reading::body, crate::specs::Reading::choose, crate::specs::Reading::bind, crate::specs::Reading::done))]
+fn level_body(alloc: Global, tokens: &[Token]) -> Result<(Items<Text>, &[Token]), Stop>
+    ensures { Gives (λ r. (r.0, r.1.now)) result (body level tokens.now) }
+{
+    if begins_with_indent(tokens) {
+        let (_, rest) = indent(tokens)?;
+        let (levels, rest) = some_levels(alloc, rest)?;
+        let (_, rest) = dedent(rest)?;
+        Ok((levels, rest))
+    } else {
+        Ok((Items::new(alloc), tokens))
+    }
+}
+
+/// Reads `include = "include" Newline (Indent (level Newline)+ Dedent)?`, where it stands.
+#[tactic(auto, unfolding(crate::specs::Readers::Sections::section, crate::specs::Reading::choose, crate::specs::Reading::bind, crate::specs::Reading::done))]
+pub(crate) fn levels(alloc: Global, tokens: &[Token]) -> Result<(Items<Text>, &[Token]), Stop>
+    ensures { Gives (λ r. (r.0, r.1.now)) result (section Include level tokens.now) }
+{
+    if begins_with_word(tokens, Word::Include) {
+        let (_, rest) = word(tokens, Word::Include)?;
+        let (_, rest) = newline(rest)?;
+        level_body(alloc, rest)
+    } else {
+        Ok((Items::new(alloc), tokens))
+    }
+}
