@@ -11,3 +11,5 @@ pub mod Groups
 pub mod Features
 pub mod Sections
 pub mod File
+pub mod Dead
+pub mod Named

@@ -2,6 +2,7 @@
 #![tactic(auto)]
 
 mod fault;
+mod named;
 mod reading;
 mod reference;
 mod tokens;
