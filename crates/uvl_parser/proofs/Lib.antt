@@ -1,4 +1,9 @@
 pub mod TokenKinds
+pub mod Fronts
+pub mod Sorts
+pub mod Levels
+pub mod Scanned
+pub mod Naming
 pub mod Readers
 pub mod Completing
 pub mod Turns

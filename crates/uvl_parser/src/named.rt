@@ -1,16 +1,11 @@
 //! The faults with a name of their own: the first token at which one is met.
+mod candidate;
+mod kinds;
+mod line;
+mod nesting;
+mod rule;
+mod scan;
 mod section;
 
-pub(crate) use section::{Section, SectionPart};
-use uvl_base::FaultKind;
-
-/// The first token at which a named fault is met, or would be if the token could stand there.
-#[derive(Clone, Copy, Debug, PartialEq, Eq)]
-pub(crate) struct Candidate {
-    /// How many tokens are in front of it.
-    pub(crate) index: usize,
-    /// What is wrong there where some file has these tokens up to and with it.
-    pub(crate) alive: FaultKind,
-    /// What is wrong there where no file has, if it is a named fault.
-    pub(crate) dead: Option<FaultKind>,
-}
+pub(crate) use candidate::Candidate;
+pub(crate) use scan::first_named;

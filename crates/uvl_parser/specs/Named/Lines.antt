@@ -1,5 +1,5 @@
 -- Lines of tokens, seen from a place in them: a list of the tokens in front of it, the nearest first.
-use Rattle.std.specs.Prelude.{Bool, true, false, ◌||◌, cond, List, [], ◌∷◌, reverse}
+use Rattle.std.specs.Prelude.{Bool, true, ◌||◌, cond, List, [], ◌∷◌, reverse}
 use Rattle.uvl_lexer.specs.declared.token.Token.{Token}
 use Rattle.uvl_parser.specs.Tests.{Test, is_newline, is_indent, is_dedent}
 

@@ -1,6 +1,6 @@
 -- How deep brackets and `!` nest at a place in a line: how many brackets of any kind stand open there,
 -- and how many `!` apply to what follows. A `!` applies to the whole comparison behind it.
-use Rattle.std.specs.Prelude.{ℕ, zero, suc, ◌+◌, ◌-◌, Bool, true, false, not, ◌&&◌, cond, List, [], ◌∷◌}
+use Rattle.std.specs.Prelude.{ℕ, zero, suc, ◌+◌, ◌-◌, Bool, true, false, not, ◌&&◌, ◌||◌, cond, List, [], ◌∷◌}
 use Rattle.uvl_lexer.specs.declared.token.Token.{Token}
 use Rattle.uvl_lexer.specs.declared.token.TokenKind.{TokenKind}
 use Rattle.uvl_lexer.specs.declared.token.TokenKind.TheVariants as token
@@ -12,6 +12,10 @@ opens_bracket (token.Symbol symbol.LeftParen) = true
 opens_bracket (token.Symbol symbol.LeftBracket) = true
 opens_bracket (token.Symbol symbol.LeftBrace) = true
 opens_bracket _ = false
+
+-- whether what follows is nested deeper by a token
+abbrev pub deepens : Test
+deepens kind = opens_bracket kind || is_symbol symbol.Bang kind
 
 abbrev pub closes_bracket : Test
 closes_bracket (token.Symbol symbol.RightParen) = true
