@@ -124,13 +124,14 @@ unfolding bind one accept choose done many closed
 has_token test R begins xs v r = begins_some test xs (begins xs v r)
 
 module _ {A : Type 0} (test : Test) (p : ℕ → Reader A) (R : Spelling A) (Stops : Rest) (d : ℕ)
-    (c : Complete p R Stops d) (begins : PartsBegin test R) (stops : (rest : List Token) → Begins test rest → Stops rest) where
+    (c : Complete p R Stops d) (begins : PartsBegin test R)
+    (at_part : (xs : List Token) (v : A) (rest : List Token) → R xs v → Stops (xs ++ rest)) where
   -- where parts or the rest follow, a part stops
   stops_there : {ys : List Token} {items : List A} → Repeated R ys items → (rest : List Token) → Stops rest → Stops (ys ++ rest)
   unfolding bind one accept choose done many closed
   stops_there None_more rest at_rest = at_rest
   stops_there (One_more {xs} {ys} {a} r rs) rest at_rest =
-      stops ((xs ++ ys) ++ rest) (begins_on test (xs ++ ys) rest (begins_on test xs ys (begins xs a r)))
+      subst Stops (sym (append_assoc xs ys rest)) (at_part xs a (ys ++ rest) r)
 
   turns_nothing : (m k : ℕ) (rest : List Token) → Avoids test rest → repeat k test (p m) rest ≡ Ok ([], rest)
   unfolding repeat bind one accept choose done many closed
@@ -229,7 +230,14 @@ module _ {d : ℕ} where
   pub many_complete : {A : Type 0} (test : Test) {p : ℕ → Reader A} {R : Spelling A} {Stops : Rest}
       → Complete p R Stops d → PartsBegin test R → ((rest : List Token) → Begins test rest → Stops rest)
       → Complete (λ m. many test (p m)) (Repeated R) (λ rest. Stops rest × Avoids test rest) d
-  many_complete {A} test {p} {R} {Stops} c begins stops = complete_many test p R Stops d c begins stops
+  many_complete {A} test {p} {R} {Stops} c begins stops =
+      complete_many test p R Stops d c begins (λ xs v rest r. stops (xs ++ rest) (begins_on test xs rest (begins xs v r)))
+
+  -- parts that stop in front of a part
+  pub parts_complete : {A : Type 0} (test : Test) {p : ℕ → Reader A} {R : Spelling A} {Stops : Rest}
+      → Complete p R Stops d → PartsBegin test R → ((xs : List Token) (v : A) (rest : List Token) → R xs v → Stops (xs ++ rest))
+      → Complete (λ m. many test (p m)) (Repeated R) (λ rest. Stops rest × Avoids test rest) d
+  parts_complete {A} test {p} {R} {Stops} c begins at_part = complete_many test p R Stops d c begins at_part
 
 -- ---- parts put together
 
@@ -265,3 +273,17 @@ done_now = record { nothing = refl; gives = refl }
 pub part_last : {A B : Type 0} {R : Spelling A} {g : A → B} {xs : List Token} (v : A) → R xs v → Then R (λ a. IsDone (g a)) xs (g v)
 part_last {A} {B} {R} {g} {xs} v r =
     record { front = xs; back = []; middle = v; joins = sym (append-nil xs); first = r; second = done_now }
+
+-- ---- one level deeper
+
+complete_at : {A : Type 0} (p q : ℕ → Reader A) (R : Spelling A) (Stops : Rest) (d : ℕ)
+    → ((m : ℕ) (us : List Token) → p (suc m) us ≡ q m us) → Complete q R Stops d
+    → (m : ℕ) → suc d ≤ m → (xs : List Token) (v : A) (rest : List Token) → R xs v → Stops rest → p m (xs ++ rest) ≡ Ok (v, rest)
+complete_at p q R Stops d is c zero le xs v rest r stops = absurd (omega arith)
+complete_at p q R Stops d is c (suc m) le xs v rest r stops =
+    let within : d ≤ m = omega arith in is m (xs ++ rest) ∙ c.reads m within xs v rest r stops
+
+-- a reader that goes as another does one level above
+pub complete_deeper : {A : Type 0} (p q : ℕ → Reader A) (R : Spelling A) (Stops : Rest) (d : ℕ)
+    → ((m : ℕ) (us : List Token) → p (suc m) us ≡ q m us) → Complete q R Stops d → Complete p R Stops (suc d)
+complete_deeper p q R Stops d is c = record { reads = complete_at p q R Stops d is c }

@@ -6,5 +6,9 @@ pub mod Scanned
 pub mod Naming
 pub mod Readers
 pub mod Completing
+pub mod Opened
+pub mod Deeper
 pub mod Turns
+pub mod Firsts
+pub mod Shaped
 pub mod Parts

@@ -1,6 +1,7 @@
 pub mod Tokens
 pub mod Tests
 pub mod Reading
+pub mod Openings
 pub mod Readers
 pub mod Shapes
 pub mod Refs

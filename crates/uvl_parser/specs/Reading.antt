@@ -5,7 +5,8 @@ use Rattle.std.specs.Prelude.{◌≡◌, ℕ, zero, suc, cond, List, [], ◌∷�
 use Rattle.uvl_base.specs.declared.place.Place.{Place}
 use Rattle.uvl_lexer.specs.declared.token.Token.{Token}
 use Rattle.uvl_lexer.specs.declared.token.TokenKind.{TokenKind}
-use Rattle.uvl_parser.specs.Tests.{Test}
+use Rattle.uvl_lexer.specs.declared.token.Symbol.TheVariants as symbol
+use Rattle.uvl_parser.specs.Tests.{Test, is_symbol, is_indent, is_dedent, stays, begins}
 use Rattle.uvl_parser.specs.declared.reading.Stop.{Stop}
 use Rattle.uvl_parser.specs.declared.reading.Stop.TheVariants.{Stuck, OutOfMemory}
 
@@ -45,8 +46,7 @@ accept f (t ∷ ts) = accepted (f t.kind) t ts
 
 -- one of two readers, by the first token: the second where there is none
 unfoldable pub choose : {A : Type 0} → Test → Reader A → Reader A → Reader A
-choose test p q [] = q []
-choose test p q (t ∷ ts) = cond (test t.kind) (p (t ∷ ts)) (q (t ∷ ts))
+choose test p q ts = cond (begins test ts) (p ts) (q ts)
 
 -- none or more, while the first token passes a test, and at most so many
 unfoldable pub repeat : {A : Type 0} → ℕ → Test → Reader A → Reader (List A)
@@ -57,6 +57,27 @@ repeat (suc n) test p ts =
 -- none or more, while the first token passes a test: there are no more than there are tokens
 unfoldable pub many : {A : Type 0} → Test → Reader A → Reader (List A)
 many test p ts = repeat (length ts) test p ts
+
+-- one or more, while the first token passes a test
+unfoldable pub one_or_more : {A : Type 0} → Test → Reader A → Reader (List A)
+one_or_more test p = bind p (λ a. bind (many test p) (λ items. done (a ∷ items)))
+
+-- a part behind a comma
+unfoldable pub behind_comma : {A : Type 0} → Reader A → Reader A
+behind_comma p = bind (one (is_symbol symbol.Comma)) (λ comma. p)
+
+-- none or more with commas between them, in front of a token that closes them
+unfoldable pub separated : {A : Type 0} → Test → Reader A → Reader (List A)
+separated closes p =
+    choose closes (done [])
+    (bind p (λ a. bind (many (is_symbol symbol.Comma) (behind_comma p)) (λ items. done (a ∷ items))))
+
+-- one or more indented by a level, or nothing
+unfoldable pub body : {A : Type 0} → Reader A → Reader (List A)
+body p =
+    choose is_indent
+    (bind (one is_indent) (λ indent. bind (one_or_more stays p) (λ items. bind (one is_dedent) (λ dedent. done items))))
+    (done [])
 
 -- what is read, behind what was read before
 abbrev pub with_front : {A : Type 0} → List A → Read (List A) → Read (List A)

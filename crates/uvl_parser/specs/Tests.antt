@@ -1,5 +1,5 @@
 -- Tests of a token's kind, as a reader makes them.
-use Rattle.std.specs.Prelude.{ℕ, Bool, true, false, ◌==◌, List, [], ◌∷◌, Option, Some, None}
+use Rattle.std.specs.Prelude.{ℕ, Bool, true, false, not, ◌==◌, List, [], ◌∷◌, Option, Some, None}
 use Rattle.uvl_lexer.specs.declared.token.Token.{Token}
 use Rattle.uvl_lexer.specs.declared.token.TokenKind.{TokenKind}
 use Rattle.uvl_lexer.specs.declared.token.TokenKind.TheVariants as token
@@ -87,6 +87,10 @@ abbrev pub is_finish : Test
 is_finish token.Finish = true
 is_finish _ = false
 
+-- whether a level of indentation goes on
+abbrev pub stays : Test
+stays kind = not (is_dedent kind)
+
 -- whether there is something
 abbrev pub is_there : {A : Type 0} → Option A → Bool
 is_there (Some a) = true
@@ -96,3 +100,14 @@ is_there None = false
 abbrev pub begins : Test → List Token → Bool
 begins test [] = false
 begins test (t ∷ ts) = test t.kind
+
+-- whether a value begins
+abbrev pub begins_value : Test
+begins_value (token.Symbol symbol.LeftBrace) = true
+begins_value (token.Symbol symbol.LeftBracket) = true
+begins_value (token.Symbol symbol.Minus) = true
+begins_value (token.Word word.True) = true
+begins_value (token.Word word.False) = true
+begins_value (token.Number value whole) = true
+begins_value (token.Text text) = true
+begins_value _ = false

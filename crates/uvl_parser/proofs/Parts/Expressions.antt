@@ -1,0 +1,6 @@
+-- Expressions are read exactly.
+pub mod Spelled
+pub mod Read
+pub mod Whole
+pub mod Steps
+pub mod Ranks

@@ -1,0 +1,59 @@
+//! The parts of expressions that no expression stands in.
+ghost use Rattle.std.specs.Prelude.{◌≡◌, Ok, Err, IfOk};
+ghost use Rattle.uvl_ast.specs.declared.expression.Expr.TheVariants as expr;
+ghost use Rattle.uvl_parser.specs.Reading.{Gives};
+ghost use Rattle.uvl_parser.specs.Readers.Expressions.{negative, total, named};
+
+use crate::number::{negated, number};
+use crate::reading::Stop;
+use crate::reference::reference;
+use crate::tokens::{name, symbol};
+use sqlite_items::Boxed;
+use std::alloc::{AllocError, Global};
+use uvl_ast::{BinOp, Expr};
+use uvl_base::Place;
+use uvl_lexer::{Symbol, Token};
+
+/// Reads the number behind a minus.
+#[tactic(auto, unfolding(crate::specs::Readers::Expressions::negative, crate::specs::Reading::bind, crate::specs::Reading::done))]
+pub(crate) fn negative(minus: Place, tokens: &[Token]) -> Result<(Expr, &[Token]), Stop>
+    ensures { Gives (λ r. (r.0, r.1.now)) result (negative minus tokens.now) }
+{
+    let (value, _, rest) = number(tokens)?;
+    Ok((Expr::Number(negated(*value), minus), rest))
+}
+
+/// Reads what is behind the word `sum`: the name of an attribute in parentheses.
+#[tactic(auto, unfolding(crate::specs::Readers::Expressions::total, crate::specs::Reading::bind, crate::specs::Reading::done))]
+pub(crate) fn total(word: Place, tokens: &[Token]) -> Result<(Expr, &[Token]), Stop>
+    ensures { Gives (λ r. (r.0, r.1.now)) result (total word tokens.now) }
+{
+    let (_, rest) = symbol(tokens, Symbol::LeftParen)?;
+    let (key, _, rest) = name(rest)?;
+    let (_, rest) = symbol(rest, Symbol::RightParen)?;
+    Ok((Expr::Sum(key.clone()?, word), rest))
+}
+
+/// Reads the name of a feature or of an attribute.
+#[tactic(auto, unfolding(crate::specs::Readers::Expressions::named, crate::specs::Reading::bind, crate::specs::Reading::done))]
+pub(crate) fn named(alloc: Global, tokens: &[Token]) -> Result<(Expr, &[Token]), Stop>
+    ensures { Gives (λ r. (r.0, r.1.now)) result (named tokens.now) }
+{
+    let (name, rest) = reference(alloc, tokens)?;
+    Ok((Expr::Name(name), rest))
+}
+
+/// The operator of two operands that stands at a place.
+pub(crate) fn binary(
+    alloc: Global,
+    operator: BinOp,
+    left: Expr,
+    right: Expr,
+    place: Place,
+) -> Result<Expr, AllocError>
+    ensures { IfOk result (λ e. e ≡ expr.Binary operator left right place) }
+{
+    let left = Boxed::new(alloc, left)?;
+    let right = Boxed::new(alloc, right)?;
+    Ok(Expr::Binary(operator, left, right, place))
+}

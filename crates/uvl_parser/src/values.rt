@@ -1,0 +1,253 @@
+//! Attributes and their values:
+//! `plain = name value?`, `value = "true" | "false" | "-"? number | text`, attributes in braces or
+//! values in brackets.
+ghost use Rattle.std.specs.Prelude.{◌≡◌, Ok, Err, Some, None, IfOk, option_map};
+ghost use Rattle.uvl_parser.specs.Reading.{Gives, many, behind_comma, separated, with_front, closed, accept, done};
+ghost use Rattle.uvl_parser.specs.Tests.{is_symbol, begins_value, begins};
+ghost use Rattle.uvl_parser.specs.Readers.Values.{value_of, simple_value, value_at, attribute_at, attribute, list_with, vector_with};
+ghost use Rattle.uvl_lexer.specs.declared.token.Symbol.TheVariants.{Comma, RightBrace, RightBracket};
+
+use crate::number::{negated, number};
+use crate::reading::Stop;
+use crate::tokens::{begins_with_symbol, name, symbol};
+use sqlite_items::Items;
+use std::alloc::{AllocError, Global};
+use uvl_ast::{AttrValue, Attribute};
+use uvl_base::Place;
+use uvl_lexer::{Symbol, Token, TokenKind, Word};
+
+/// The value that a token is by itself.
+fn value_of(kind: &TokenKind) -> Result<Option<AttrValue>, AllocError>
+    ensures { IfOk result (λ value. value ≡ value_of kind.now) }
+{
+    Ok(match kind {
+        TokenKind::Word(Word::True) => Some(AttrValue::Yes),
+        TokenKind::Word(Word::False) => Some(AttrValue::No),
+        TokenKind::Number { value, .. } => Some(AttrValue::Number(*value)),
+        TokenKind::Text(text) => Some(AttrValue::Words(text.clone()?)),
+        _ => None,
+    })
+}
+
+/// Whether a value begins with a token.
+fn begins_value(tokens: &[Token]) -> bool
+    ensures { result ≡ begins begins_value tokens.now }
+{
+    match tokens.split_first() {
+        Some((token, _)) => matches!(
+            &token.kind,
+            TokenKind::Symbol(Symbol::LeftBrace | Symbol::LeftBracket | Symbol::Minus)
+                | TokenKind::Word(Word::True | Word::False)
+                | TokenKind::Number { .. }
+                | TokenKind::Text(_)
+        ),
+        None => false,
+    }
+}
+
+/// Reads a value that is one token.
+#[tactic(auto, unfolding(crate::specs::Reading::accept, crate::specs::Reading::bind, crate::specs::Reading::done))]
+fn single_value(tokens: &[Token]) -> Result<(AttrValue, Place, &[Token]), Stop>
+    ensures { Gives (λ r. ((r.0, r.1), r.2.now)) result (accept value_of tokens.now) }
+{
+    let Some((token, rest)) = tokens.split_first() else {
+        return Err(Stop::Stuck { left: 0 });
+    };
+    match value_of(&token.kind)? {
+        Some(value) => Ok((value, token.place, rest)),
+        None => Err(Stop::Stuck { left: tokens.len() }),
+    }
+}
+
+/// Reads a value without braces and brackets.
+#[tactic(auto, unfolding(crate::specs::Readers::Values::simple_value, crate::specs::Reading::choose, crate::specs::Reading::bind, crate::specs::Reading::done))]
+fn simple_value(tokens: &[Token]) -> Result<(AttrValue, &[Token]), Stop>
+    ensures { Gives (λ r. (r.0, r.1.now)) result (simple_value tokens.now) }
+{
+    if begins_with_symbol(tokens, Symbol::Minus) {
+        let (_, rest) = symbol(tokens, Symbol::Minus)?;
+        let (value, _, rest) = number(rest)?;
+        Ok((AttrValue::Number(negated(*value)), rest))
+    } else {
+        let (value, _, rest) = single_value(tokens)?;
+        Ok((value, rest))
+    }
+}
+
+/// Reads an attribute, however deep its value nests: braces and brackets are tokens too.
+pub(crate) fn attribute(alloc: Global, tokens: &[Token]) -> Result<(Attribute, &[Token]), Stop>
+    ensures { Gives (λ r. (r.0, r.1.now)) result (attribute tokens.now) }
+{
+    attribute_at(alloc, tokens, tokens.len() + 1)
+}
+
+/// Reads an attribute whose value nests to fewer than `depth` levels.
+#[cycle(values)]
+#[tactic(auto, unfolding(crate::specs::Readers::Values::attribute_with, crate::specs::Reading::choose, crate::specs::Reading::bind, crate::specs::Reading::done))]
+fn attribute_at(
+    alloc: Global,
+    tokens: &[Token],
+    depth: usize,
+) -> Result<(Attribute, &[Token]), Stop>
+    ensures { Gives (λ r. (r.0, r.1.now)) result (attribute_at depth tokens.now) }
+{
+    let (key, place, rest) = name(tokens)?;
+    let key = key.clone()?;
+    if begins_value(rest) {
+        let (value, rest) = value_at(alloc, rest, depth)?;
+        Ok((Attribute { key, value, place }, rest))
+    } else {
+        let value = AttrValue::Yes;
+        Ok((Attribute { key, value, place }, rest))
+    }
+}
+
+/// Reads a value that nests to fewer than `depth` levels.
+#[cycle(values)]
+#[tactic(auto, unfolding(crate::specs::Readers::Values::value_at, crate::specs::Readers::Values::value_with, crate::specs::Reading::choose, crate::specs::Reading::bind, crate::specs::Reading::done))]
+fn value_at(alloc: Global, tokens: &[Token], depth: usize) -> Result<(AttrValue, &[Token]), Stop>
+    ensures { Gives (λ r. (r.0, r.1.now)) result (value_at depth tokens.now) }
+{
+    if depth == 0 {
+        return Err(Stop::Stuck { left: tokens.len() });
+    }
+    if begins_with_symbol(tokens, Symbol::LeftBrace) {
+        let (_, rest) = symbol(tokens, Symbol::LeftBrace)?;
+        list(alloc, rest, depth - 1)
+    } else if begins_with_symbol(tokens, Symbol::LeftBracket) {
+        let (_, rest) = symbol(tokens, Symbol::LeftBracket)?;
+        vector(alloc, rest, depth - 1)
+    } else {
+        simple_value(tokens)
+    }
+}
+
+/// Reads attributes with commas between them, and the brace that closes them.
+#[cycle(values)]
+#[tactic(auto, unfolding(crate::specs::Readers::Values::list_with, crate::specs::Reading::bind, crate::specs::Reading::done))]
+fn list(alloc: Global, tokens: &[Token], depth: usize) -> Result<(AttrValue, &[Token]), Stop>
+    ensures { Gives (λ r. (r.0, r.1.now)) result (list_with (value_at depth) tokens.now) }
+{
+    let (attributes, rest) = attributes(alloc, tokens, depth)?;
+    let (_, rest) = symbol(rest, Symbol::RightBrace)?;
+    Ok((AttrValue::List(attributes), rest))
+}
+
+/// Reads attributes with commas between them.
+#[cycle(values)]
+#[tactic(auto, unfolding(crate::specs::Reading::separated, crate::specs::Reading::choose, crate::specs::Reading::bind, crate::specs::Reading::done))]
+fn attributes(
+    alloc: Global,
+    tokens: &[Token],
+    depth: usize,
+) -> Result<(Items<Attribute>, &[Token]), Stop>
+    ensures { Gives (λ r. (r.0, r.1.now)) result (separated (is_symbol RightBrace) (attribute_at depth) tokens.now) }
+{
+    let mut attributes = Items::new(alloc);
+    if begins_with_symbol(tokens, Symbol::RightBrace) {
+        return Ok((attributes, tokens));
+    }
+    let (first, rest) = attribute_at(alloc, tokens, depth)?;
+    attributes.push(first)?;
+    let rest = more_attributes(alloc, &mut attributes, rest, depth)?;
+    Ok((attributes, rest))
+}
+
+/// Reads attributes behind commas, and puts them behind the others.
+#[cycle(values)]
+fn more_attributes<'a>(
+    alloc: Global,
+    attributes: &mut Items<Attribute>,
+    tokens: &'a [Token],
+    depth: usize,
+) -> Result<&'a [Token], Stop>
+    ensures { Gives (λ rest. (attributes.new, rest.now)) result (with_front attributes.old (many (is_symbol Comma) (behind_comma (attribute_at depth)) tokens.now)) }
+{
+    let mut rest = tokens;
+    for _turn in 0..tokens.len() {
+        if !begins_with_symbol(rest, Symbol::Comma) {
+            return Ok(rest);
+        }
+        let (next, behind) = next_attribute(alloc, rest, depth)?;
+        attributes.push(next)?;
+        rest = behind;
+    }
+    Ok(rest)
+}
+
+/// Reads an attribute behind a comma.
+#[cycle(values)]
+#[tactic(auto, unfolding(crate::specs::Reading::behind_comma, crate::specs::Reading::bind))]
+fn next_attribute(
+    alloc: Global,
+    tokens: &[Token],
+    depth: usize,
+) -> Result<(Attribute, &[Token]), Stop>
+    ensures { Gives (λ r. (r.0, r.1.now)) result (behind_comma (attribute_at depth) tokens.now) }
+{
+    let (_, rest) = symbol(tokens, Symbol::Comma)?;
+    attribute_at(alloc, rest, depth)
+}
+
+/// Reads values with commas between them, and the bracket that closes them.
+#[cycle(values)]
+#[tactic(auto, unfolding(crate::specs::Readers::Values::vector_with, crate::specs::Reading::bind, crate::specs::Reading::done))]
+fn vector(alloc: Global, tokens: &[Token], depth: usize) -> Result<(AttrValue, &[Token]), Stop>
+    ensures { Gives (λ r. (r.0, r.1.now)) result (vector_with (value_at depth) tokens.now) }
+{
+    let (values, rest) = values(alloc, tokens, depth)?;
+    let (_, rest) = symbol(rest, Symbol::RightBracket)?;
+    Ok((AttrValue::Vector(values), rest))
+}
+
+/// Reads values with commas between them.
+#[cycle(values)]
+#[tactic(auto, unfolding(crate::specs::Reading::separated, crate::specs::Reading::choose, crate::specs::Reading::bind, crate::specs::Reading::done))]
+fn values(
+    alloc: Global,
+    tokens: &[Token],
+    depth: usize,
+) -> Result<(Items<AttrValue>, &[Token]), Stop>
+    ensures { Gives (λ r. (r.0, r.1.now)) result (separated (is_symbol RightBracket) (value_at depth) tokens.now) }
+{
+    let mut values = Items::new(alloc);
+    if begins_with_symbol(tokens, Symbol::RightBracket) {
+        return Ok((values, tokens));
+    }
+    let (first, rest) = value_at(alloc, tokens, depth)?;
+    values.push(first)?;
+    let rest = more_values(alloc, &mut values, rest, depth)?;
+    Ok((values, rest))
+}
+
+/// Reads values behind commas, and puts them behind the others.
+#[cycle(values)]
+fn more_values<'a>(
+    alloc: Global,
+    values: &mut Items<AttrValue>,
+    tokens: &'a [Token],
+    depth: usize,
+) -> Result<&'a [Token], Stop>
+    ensures { Gives (λ rest. (values.new, rest.now)) result (with_front values.old (many (is_symbol Comma) (behind_comma (value_at depth)) tokens.now)) }
+{
+    let mut rest = tokens;
+    for _turn in 0..tokens.len() {
+        if !begins_with_symbol(rest, Symbol::Comma) {
+            return Ok(rest);
+        }
+        let (next, behind) = next_value(alloc, rest, depth)?;
+        values.push(next)?;
+        rest = behind;
+    }
+    Ok(rest)
+}
+
+/// Reads a value behind a comma.
+#[cycle(values)]
+#[tactic(auto, unfolding(crate::specs::Reading::behind_comma, crate::specs::Reading::bind))]
+fn next_value(alloc: Global, tokens: &[Token], depth: usize) -> Result<(AttrValue, &[Token]), Stop>
+    ensures { Gives (λ r. (r.0, r.1.now)) result (behind_comma (value_at depth) tokens.now) }
+{
+    let (_, rest) = symbol(tokens, Symbol::Comma)?;
+    value_at(alloc, rest, depth)
+}
