@@ -184,17 +184,17 @@ module _ (t : Token) (ts : List Token) (b : ℕ) (bs : List ℕ) where
       let levels = ap (λ ls. left_of ls ts + nesting ts) (closed_levels t.kind b bs o c) in
       closing bs (adds_none o) (applies_none g) inner levels o c
     where
-    closing : (cs : List ℕ) → one_if (opens_bracket t.kind && goes_on closes_bracket 0 ts) ≡ 0
-        → one_if (is_symbol symbol.Bang t.kind && goes_on ends_operand 0 ts) ≡ 0 → kept b (goes_on ends_operand 0 (t ∷ ts)) ≡ 0
-        → left_of (levels_behind (b ∷ bs) t.kind) ts + nesting ts ≡ left_of (outer_levels cs) ts + nesting ts
-        → opens_bracket t.kind ≡ false → closes_bracket t.kind ≡ true
-        → left_of (b ∷ cs) (t ∷ ts) + nesting (t ∷ ts) ≡ left_of (levels_behind (b ∷ bs) t.kind) ts + nesting ts
-    closing [] a1 a2 inner levels o c = let none = none_kept (goes_on ends_operand 0 ts) in omega (arith, a1, a2, inner, levels, none)
-    closing (d ∷ cs) a1 a2 inner levels o c =
-        let bracket = ap one_if (ended closes_bracket t ts c) in
-        let applied = ap (kept d) (left_inner ends_operand t ts 0 o c) in
-        let around = around_left t ts 0 cs o c in
-        omega (arith, a1, a2, inner, levels, bracket, applied, around)
+      closing : (cs : List ℕ) → one_if (opens_bracket t.kind && goes_on closes_bracket 0 ts) ≡ 0
+          → one_if (is_symbol symbol.Bang t.kind && goes_on ends_operand 0 ts) ≡ 0 → kept b (goes_on ends_operand 0 (t ∷ ts)) ≡ 0
+          → left_of (levels_behind (b ∷ bs) t.kind) ts + nesting ts ≡ left_of (outer_levels cs) ts + nesting ts
+          → opens_bracket t.kind ≡ false → closes_bracket t.kind ≡ true
+          → left_of (b ∷ cs) (t ∷ ts) + nesting (t ∷ ts) ≡ left_of (levels_behind (b ∷ bs) t.kind) ts + nesting ts
+      closing [] a1 a2 inner levels o c = let none = none_kept (goes_on ends_operand 0 ts) in omega (arith, a1, a2, inner, levels, none)
+      closing (d ∷ cs) a1 a2 inner levels o c =
+          let bracket = ap one_if (ended closes_bracket t ts c) in
+          let applied = ap (kept d) (left_inner ends_operand t ts 0 o c) in
+          let around = around_left t ts 0 cs o c in
+          omega (arith, a1, a2, inner, levels, bracket, applied, around)
   same_behind (Ending o c e g) =
       let inner = ap (kept b) (ended ends_operand t ts e) in
       let around = around_passed t ts 0 bs o c in
@@ -221,15 +221,15 @@ module _ (t : Token) (ts : List Token) (b : ℕ) (bs : List ℕ) where
   same_brackets (Closing o c e g) =
       closing bs (adds_none o) (ap (λ ls. brackets_of ls ts + open_brackets ts) (closed_levels t.kind b bs o c)) o c
     where
-    closing : (cs : List ℕ) → one_if (opens_bracket t.kind && goes_on closes_bracket 0 ts) ≡ 0
-        → brackets_of (levels_behind (b ∷ bs) t.kind) ts + open_brackets ts ≡ brackets_of (outer_levels cs) ts + open_brackets ts
-        → opens_bracket t.kind ≡ false → closes_bracket t.kind ≡ true
-        → brackets_of (b ∷ cs) (t ∷ ts) + open_brackets (t ∷ ts) ≡ brackets_of (levels_behind (b ∷ bs) t.kind) ts + open_brackets ts
-    closing [] a1 levels o c = omega (arith, a1, levels)
-    closing (d ∷ cs) a1 levels o c =
-        let bracket = ap one_if (ended closes_bracket t ts c) in
-        let around = brackets_left t ts 0 cs o c in
-        omega (arith, a1, levels, bracket, around)
+      closing : (cs : List ℕ) → one_if (opens_bracket t.kind && goes_on closes_bracket 0 ts) ≡ 0
+          → brackets_of (levels_behind (b ∷ bs) t.kind) ts + open_brackets ts ≡ brackets_of (outer_levels cs) ts + open_brackets ts
+          → opens_bracket t.kind ≡ false → closes_bracket t.kind ≡ true
+          → brackets_of (b ∷ cs) (t ∷ ts) + open_brackets (t ∷ ts) ≡ brackets_of (levels_behind (b ∷ bs) t.kind) ts + open_brackets ts
+      closing [] a1 levels o c = omega (arith, a1, levels)
+      closing (d ∷ cs) a1 levels o c =
+          let bracket = ap one_if (ended closes_bracket t ts c) in
+          let around = brackets_left t ts 0 cs o c in
+          omega (arith, a1, levels, bracket, around)
   same_brackets (Ending o c e g) =
       let around = brackets_passed t ts 0 bs o c in
       let levels = ap (λ ls. brackets_of ls ts + open_brackets ts) (ended_levels t.kind b bs o c e) in
@@ -266,9 +266,9 @@ some_behind (b ∷ bs) kind there =
     (picked (closes_bracket kind) (outer_levels bs) _ (outer_there bs)
     (picked (ends_operand kind) (0 ∷ bs) _ tt (picked (is_symbol symbol.Bang kind) ((b + 1) ∷ bs) (b ∷ bs) tt tt)))
   where
-  picked : (x : Bool) (ls ms : List ℕ) → Some_level ls → Some_level ms → Some_level (cond x ls ms)
-  picked true ls ms l m = l
-  picked false ls ms l m = m
+    picked : (x : Bool) (ls ms : List ℕ) → Some_level ls → Some_level ms → Some_level (cond x ls ms)
+    picked true ls ms l m = l
+    picked false ls ms l m = m
 
 around_all : (n : ℕ) (bs : List ℕ) → left_around n bs [] ≡ depth_around bs
 around_all n [] = refl
@@ -300,13 +300,13 @@ levels_run : (before : List Token) → levels_of before ≡ run (0 ∷ []) (line
 levels_run [] = refl
 levels_run (t ∷ before) = by_mark (is_line_mark t.kind) (levels_run before)
   where
-  by_mark : (mark : Bool) → levels_of before ≡ run (0 ∷ []) (line_of before)
-      → cond mark (0 ∷ []) (levels_behind (levels_of before) t.kind) ≡ run (0 ∷ []) (reverse (cond mark [] (t ∷ back_in_line before)))
-  by_mark true so_far = refl
-  by_mark false so_far =
-      ap (λ ls. levels_behind ls t.kind) so_far
-      ∙ sym (run_more (0 ∷ []) (line_of before) t)
-      ∙ ap (run (0 ∷ [])) (sym (reverse-append (t ∷ []) (back_in_line before)))
+    by_mark : (mark : Bool) → levels_of before ≡ run (0 ∷ []) (line_of before)
+        → cond mark (0 ∷ []) (levels_behind (levels_of before) t.kind) ≡ run (0 ∷ []) (reverse (cond mark [] (t ∷ back_in_line before)))
+    by_mark true so_far = refl
+    by_mark false so_far =
+        ap (λ ls. levels_behind ls t.kind) so_far
+        ∙ sym (run_more (0 ∷ []) (line_of before) t)
+        ∙ ap (run (0 ∷ [])) (sym (reverse-append (t ∷ []) (back_in_line before)))
 
 -- they make the nesting of what follows
 pub nesting_is : (before : List Token) → depth_of (levels_of before) ≡ nesting (line_of before)
@@ -325,10 +325,10 @@ pub some_level : (before : List Token) → Some_level (levels_of before)
 some_level [] = tt
 some_level (t ∷ before) = by_mark (is_line_mark t.kind) (some_behind (levels_of before) t.kind (some_level before))
   where
-  by_mark : (mark : Bool) → Some_level (levels_behind (levels_of before) t.kind)
-      → Some_level (cond mark (0 ∷ []) (levels_behind (levels_of before) t.kind))
-  by_mark true there = tt
-  by_mark false there = there
+    by_mark : (mark : Bool) → Some_level (levels_behind (levels_of before) t.kind)
+        → Some_level (cond mark (0 ∷ []) (levels_behind (levels_of before) t.kind))
+    by_mark true there = tt
+    by_mark false there = there
 
 -- ---- a bracket or `!` more
 
@@ -350,9 +350,9 @@ depth_behind (b ∷ bs) kind (Opening o c e g) there =
     let is = ap depth_of (opened_levels kind b bs o) in omega (arith, is)
 depth_behind (b ∷ bs) kind (Closing o c e g) there = outer bs (ap depth_of (closed_levels kind b bs o c))
   where
-  outer : (cs : List ℕ) → depth_of (levels_behind (b ∷ bs) kind) ≡ depth_of (outer_levels cs) → depth_of (levels_behind (b ∷ bs) kind) ≤ depth_of (b ∷ cs) + 1
-  outer [] is = omega (arith, is)
-  outer (d ∷ cs) is = omega (arith, is)
+    outer : (cs : List ℕ) → depth_of (levels_behind (b ∷ bs) kind) ≡ depth_of (outer_levels cs) → depth_of (levels_behind (b ∷ bs) kind) ≤ depth_of (b ∷ cs) + 1
+    outer [] is = omega (arith, is)
+    outer (d ∷ cs) is = omega (arith, is)
 depth_behind (b ∷ bs) kind (Ending o c e g) there = let is = ap depth_of (ended_levels kind b bs o c e) in omega (arith, is)
 depth_behind (b ∷ bs) kind (Negating o c e g) there =
     let is = ap depth_of (not_ended kind b bs o c e ∙ ap (λ x. cond x ((b + 1) ∷ bs) (b ∷ bs)) g) in omega (arith, is)

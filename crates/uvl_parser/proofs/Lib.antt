@@ -4,6 +4,9 @@ pub mod Sorts
 pub mod Levels
 pub mod Scanned
 pub mod Naming
+pub mod Walking
+pub mod Inline
+pub mod Depths
 pub mod Readers
 pub mod Completing
 pub mod Opened

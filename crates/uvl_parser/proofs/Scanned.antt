@@ -91,8 +91,8 @@ nested_there n before t levels counted d =
     same_test n.depth (nesting (line_of (t ∷ before))) (sym (nesting_is (t ∷ before)) ∙ behind ∙ ap (λ k. k + 1) (sym now))
     ∙ ap (λ b. b && nesting (line_of (t ∷ before)) == 129) (sym d)
   where
-  same_test : (m k : ℕ) → k ≡ m + 1 → (m == 128) ≡ (k == 129)
-  same_test m k e = grind (arith, nat_tests)
+    same_test : (m k : ℕ) → k ≡ m + 1 → (m == 128) ≡ (k == 129)
+    same_test m k e = grind (arith, nat_tests)
 
 pub outside_there : (n : Nesting) (before : List Token) → levels_kept n ≡ levels_of before
     → (length n.around.items == 0) ≡ (open_brackets (line_of before) == 0)

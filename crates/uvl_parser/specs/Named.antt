@@ -8,7 +8,6 @@ use Rattle.uvl_lexer.specs.declared.token.Token.{Token}
 use Rattle.uvl_parser.specs.declared.named.candidate.Candidate.{Candidate}
 use Rattle.uvl_parser.specs.Dead.{Dead}
 use Rattle.uvl_parser.specs.Named.Met.{is_typed_feature, is_feature_cardinality, is_average, is_unsupported, is_nested_too_deep, is_feature_too_deep, is_node_too_many}
-
 pub mod Lines
 pub mod Sections
 pub mod Nesting

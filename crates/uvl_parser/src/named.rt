@@ -9,3 +9,6 @@ mod section;
 
 pub(crate) use candidate::Candidate;
 pub(crate) use scan::first_named;
+
+#[cfg(test)]
+mod tests;

@@ -2,10 +2,10 @@
 ghost use Rattle.std.specs.Prelude.{◌≡◌, ◌+◌, ◌<◌, ◌^◌, ◌==◌, length, reverse};
 ghost use Rattle.uvl_parser.specs.Named.Depth.{depth_around};
 
-use std::alloc::{AllocError, Global};
-use uvl_lexer::{Symbol, TokenKind};
 use crate::named::kinds::{closes_bracket, ends_operand, opens_bracket};
 use crate::tokens::is_symbol;
+use std::alloc::{AllocError, Global};
+use uvl_lexer::{Symbol, TokenKind};
 
 /// The brackets that stand open in a line, and the `!` that apply to what follows.
 #[derive(Debug, Drop)]

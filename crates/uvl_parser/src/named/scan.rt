@@ -6,7 +6,9 @@ ghost use Rattle.uvl_parser.specs.Named.Rules as rules;
 ghost use Rattle.uvl_parser.specs.Named.Scan.{Follows, met_by_word, met_limit, met_of, if_nested, begins_rule, nodes_in, nodes_behind};
 
 use crate::named::Candidate;
-use crate::named::kinds::{ends_rule, is_function, is_line_mark, is_name, is_text, is_type, deepens};
+use crate::named::kinds::{
+    deepens, ends_rule, is_function, is_line_mark, is_name, is_text, is_type,
+};
 use crate::named::line::{begins_line, is_behind_sum_of_name, is_behind_word, names_feature};
 use crate::named::nesting::Nesting;
 use crate::named::rule::is_node;
@@ -238,7 +240,11 @@ impl Scan {
 fn if_nested(nested: bool) -> Option<FaultKind>
     ensures { result ≡ if_nested nested }
 {
-    if nested { Some(FaultKind::TooDeep) } else { None }
+    if nested {
+        Some(FaultKind::TooDeep)
+    } else {
+        None
+    }
 }
 
 fn is_at_depth_65(part: SectionPart) -> bool
