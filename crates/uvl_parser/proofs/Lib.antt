@@ -7,6 +7,8 @@ pub mod Naming
 pub mod Walking
 pub mod Inline
 pub mod Depths
+pub mod Sectioned
+pub mod Shallow
 pub mod Readers
 pub mod Completing
 pub mod Opened
