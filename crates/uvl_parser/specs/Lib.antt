@@ -12,3 +12,10 @@ pub mod Groups
 pub mod Features
 pub mod Sections
 pub mod File
+pub mod Dead
+pub mod Standing
+pub mod Nesting
+pub mod Nodes
+pub mod Named
+pub mod Answer
+pub mod Law

@@ -7,10 +7,12 @@ mod expression;
 mod fault;
 mod features;
 mod groups;
+mod nesting;
 mod number;
 mod reading;
 mod reference;
 mod sections;
+mod standing;
 mod tokens;
 mod values;
 
