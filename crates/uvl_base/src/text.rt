@@ -40,6 +40,17 @@ impl Text {
     }
 }
 
+/// The text of a String, in the memory that it has.
+impl From<String> for Text {
+    ghost use Rattle.std.specs.Prelude.{◌≡◌, chars, string_bytes};
+
+    ghost from_gives = { λ s t. t ≡ chars (string_bytes s) };
+
+    fn from(text: String) -> Text {
+        Text { text }
+    }
+}
+
 /// An empty text takes no memory.
 impl MadeWith<Global> for Text {
     ghost use Rattle.std.specs.Prelude.{◌≡◌, []};

@@ -14,6 +14,7 @@ pub mod Completing
 pub mod Opened
 pub mod Deeper
 pub mod Turns
+pub mod Keeping
 pub mod Firsts
 pub mod Shaped
 pub mod Parts

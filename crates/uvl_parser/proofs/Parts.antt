@@ -9,3 +9,4 @@ pub mod Braces
 pub mod Features
 pub mod Sections
 pub mod File
+pub mod Endings

@@ -10,7 +10,8 @@ use Rattle.uvl_ast.specs.declared.feature.Group.{Group, roll-Group}
 use Rattle.uvl_parser.specs.Tokens.{IsWord, IsNewline, IsIndent, IsDedent}
 use Rattle.uvl_parser.specs.Shapes.{Spelling, OneOrMore, Body}
 use Rattle.uvl_parser.specs.Refs.{SpellsRef}
-use Rattle.uvl_parser.specs.Braces.{Entry, attributes_of, rules_of, SpellsBraces}
+use Rattle.uvl_parser.specs.declared.braces.Entry.{Entry}
+use Rattle.uvl_parser.specs.Braces.{attributes_of, rules_of, SpellsBraces}
 use Rattle.uvl_parser.specs.Groups.{GroupFront, SpellsKind}
 
 -- the word Boolean, or nothing

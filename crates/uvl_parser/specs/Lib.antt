@@ -14,3 +14,5 @@ pub mod Sections
 pub mod File
 pub mod Dead
 pub mod Named
+pub mod Parsing
+pub mod Law

@@ -30,6 +30,9 @@ use std::alloc::Global;
 use uvl_ast::Expr;
 use uvl_lexer::{Symbol, Token};
 
+#[cfg(test)]
+mod tests;
+
 /// Reads an expression.
 #[tactic(auto, unfolding(crate::specs::Readers::Expressions::expression, crate::specs::Readers::Expressions::of_level, crate::specs::Reading::closed))]
 pub(crate) fn expression(alloc: Global, tokens: &[Token]) -> Result<(Expr, &[Token]), Stop>

@@ -16,7 +16,8 @@ use Rattle.uvl_parser.specs.Refs.{SpellsRef}
 use Rattle.uvl_parser.specs.Refs as refs
 use Rattle.uvl_parser.specs.Expressions.{Operators, Grouped, Alone, Joined, SpellsPrimary, Parentheses, Literal, Negative, Sum, Reference, SpellsSum, SpellsComparison, Compared, Not_compared, SpellsOperand, Opposite, Comparison, OperandWithin, ExprWithin, SpellsExpr}
 use Rattle.uvl_parser.specs.Values.{SpellsAttribute, Bare, Valued, SpellsPlain, ValueWithin}
-use Rattle.uvl_parser.specs.Braces.{Entry, SpellsEntry, Attribute_entry, Constraint, Constraints}
+use Rattle.uvl_parser.specs.declared.braces.Entry.{Entry}
+use Rattle.uvl_parser.specs.Braces.{SpellsEntry, Attribute_entry, Constraint, Constraints}
 use Rattle.uvl_parser.proofs.Completing.{Begins, Avoids}
 use Rattle.uvl_parser.proofs.Firsts.{is_name, name_is, name_fails, begins_longer, begins_not}
 

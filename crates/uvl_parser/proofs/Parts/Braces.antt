@@ -14,7 +14,9 @@ use Rattle.uvl_parser.specs.Tests.{Test, is_word, is_symbol, is_newline, begins_
 use Rattle.uvl_parser.specs.Shapes.{Spelling, Separated}
 use Rattle.uvl_parser.specs.Expressions.{SpellsExpr}
 use Rattle.uvl_parser.specs.Values.{SpellsAttribute, Bare, Valued, SpellsPlain}
-use Rattle.uvl_parser.specs.Braces.{Entry, Plain, Rules, SpellsEntry, Attribute_entry, Constraint, Constraints, SpellsBraces, No_braces, Entries}
+use Rattle.uvl_parser.specs.declared.braces.Entry.{Entry}
+use Rattle.uvl_parser.specs.declared.braces.Entry.TheVariants.{Plain, Rule, Rules}
+use Rattle.uvl_parser.specs.Braces.{SpellsEntry, Attribute_entry, Constraint, Constraints, SpellsBraces, No_braces, Entries}
 use Rattle.uvl_parser.specs.Reading.{Reader, done, bind, one, accept, choose, separated}
 use Rattle.uvl_parser.specs.Readers.Values.{attribute}
 use Rattle.uvl_parser.specs.Readers.Expressions.{expression}
@@ -52,7 +54,7 @@ rule_list_good = then_good (symbol_good symbol.LeftBracket) (λ left. then_good 
     then_good (symbol_good symbol.RightBracket) (λ right. done_good)))
 
 abbrev EntryParts : Spelling Entry
-EntryParts = Either (Then (IsOne (is_word word.Constraint)) (λ place. Then SpellsExpr (λ rule. IsDone (Rules (rule ∷ [])))))
+EntryParts = Either (Then (IsOne (is_word word.Constraint)) (λ place. Then SpellsExpr (λ rule. IsDone (Rule rule))))
     (Either (Then (IsOne (is_word word.Constraints)) (λ place. Then RuleListParts (λ rules. IsDone (Rules rules))))
     (Then SpellsPlain (λ a. IsDone (Plain a))))
 

@@ -1,5 +1,5 @@
 -- The tree of features is read exactly.
-use Rattle.std.specs.Prelude.{◌≡◌, ℕ, zero, suc, ◌<◌, ◌⊎◌, Bool, true, false, not, List, [], ◌∷◌, ◌++◌, length, Err}
+use Rattle.std.specs.Prelude.{◌≡◌, ℕ, zero, suc, ◌<◌, ◌-◌, ◌⊎◌, Bool, true, false, not, List, [], ◌∷◌, ◌++◌, length, Err}
 use Rattle.std.proofs.Common.{refl, sym, ap, subst, ◌∙◌, inl, inr, arith, append_assoc}
 use Rattle.uvl_base.specs.declared.place.Place.{Place}
 use Rattle.uvl_lexer.specs.declared.token.Token.{Token}
@@ -13,7 +13,8 @@ use Rattle.uvl_ast.specs.declared.feature.Group.{Group, roll-Group}
 use Rattle.uvl_parser.specs.Tests.{Test, is_word, is_symbol, is_newline, is_indent, is_dedent, stays}
 use Rattle.uvl_parser.specs.Shapes.{Spelling, OneOrMore, Body, No_body}
 use Rattle.uvl_parser.specs.Refs.{SpellsRef}
-use Rattle.uvl_parser.specs.Braces.{Entry, attributes_of, rules_of, SpellsBraces, No_braces, Entries}
+use Rattle.uvl_parser.specs.declared.braces.Entry.{Entry}
+use Rattle.uvl_parser.specs.Braces.{attributes_of, rules_of, SpellsBraces, No_braces, Entries}
 use Rattle.uvl_parser.specs.Groups.{GroupFront, SpellsKind}
 use Rattle.uvl_parser.specs.Features.{SpellsBoolean, Not_said, Said, SpellsGroup, Members, SpellsFeature, Line, FeatureWithin, SpellsTree}
 use Rattle.uvl_parser.specs.Reading.{Reader, done, bind, one, choose, one_or_more, body, closed}
@@ -262,3 +263,9 @@ feature_at_complete (suc d) = complete_deeper feature_at (λ m. feature_with (fe
 -- a tree stops where no indentation follows
 pub tree_complete : {d : ℕ} → Complete (λ m. tree) SpellsTree (Avoids is_indent) d
 tree_complete {d} = complete_closed feature_at FeatureWithin (Avoids is_indent) feature_at_good feature_at_complete d
+
+-- one level deeper
+pub feature_above : (depth : ℕ) (ts : List Token) → 0 < depth → feature_at depth ts ≡ feature_with (feature_at (depth - 1)) ts
+unfolding feature_at
+feature_above zero ts some = absurd (omega arith)
+feature_above (suc depth) ts some = let below : suc depth - 1 ≡ depth = omega arith in ap (λ d. feature_with (feature_at d) ts) (sym below)

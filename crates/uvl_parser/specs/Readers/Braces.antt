@@ -1,11 +1,14 @@
 -- Reading what stands in braces behind a feature.
-use Rattle.std.specs.Prelude.{List, [], ◌∷◌, Ok}
+use Rattle.std.specs.Prelude.{List, [], ◌∷◌, ◌++◌, Ok}
 use Rattle.uvl_lexer.specs.declared.token.Word.TheVariants as word
 use Rattle.uvl_lexer.specs.declared.token.Symbol.TheVariants as symbol
 use Rattle.uvl_ast.specs.declared.expression.Expr.{Expr}
 use Rattle.uvl_parser.specs.Tests.{is_word, is_symbol}
-use Rattle.uvl_parser.specs.Braces.{Entry, Plain, Rules}
-use Rattle.uvl_parser.specs.Reading.{Reader, done, bind, one, choose, separated}
+use Rattle.uvl_parser.specs.declared.braces.Entry.{Entry}
+use Rattle.uvl_parser.specs.declared.braces.Entry.TheVariants.{Plain, Rule, Rules}
+use Rattle.uvl_ast.specs.declared.feature.Attribute.{Attribute}
+use Rattle.uvl_parser.specs.Braces.{attributes_of, rules_of}
+use Rattle.uvl_parser.specs.Reading.{Read, Reader, ◌>>=◌, done, bind, one, choose, separated}
 use Rattle.uvl_parser.specs.Readers.Values.{attribute}
 use Rattle.uvl_parser.specs.Readers.Expressions.{expression}
 
@@ -18,7 +21,7 @@ rule_list =
 unfoldable pub entry : Reader Entry
 entry =
     choose (is_word word.Constraint)
-    (bind (one (is_word word.Constraint)) (λ place. bind expression (λ rule. done (Rules (rule ∷ [])))))
+    (bind (one (is_word word.Constraint)) (λ place. bind expression (λ rule. done (Rule rule))))
     (choose (is_word word.Constraints)
     (bind (one (is_word word.Constraints)) (λ place. bind rule_list (λ rules. done (Rules rules))))
     (bind attribute (λ a. done (Plain a))))
@@ -29,3 +32,15 @@ braces =
     (bind (one (is_symbol symbol.LeftBrace)) (λ left. bind (separated (is_symbol symbol.RightBrace) entry) (λ entries.
         bind (one (is_symbol symbol.RightBrace)) (λ right. done entries))))
     (done [])
+
+-- the attributes and the rules of the entries that were read
+abbrev pub kept : Read (List Entry) → Read (List Attribute × List Expr)
+kept read = read >>= λ r. Ok ((attributes_of r.0, rules_of r.0), r.1)
+
+-- the same, behind others
+abbrev pub kept_behind : List Attribute → List Expr → Read (List Entry) → Read (List Attribute × List Expr)
+kept_behind attributes rules read = read >>= λ r. Ok ((attributes ++ attributes_of r.0, rules ++ rules_of r.0), r.1)
+
+-- the same, with the brace that closes them
+abbrev pub kept_closed : Read (List Attribute × List Expr) → Read (List Attribute × List Expr)
+kept_closed read = read >>= λ r. one (is_symbol symbol.RightBrace) r.1 >>= λ right. Ok (r.0, right.1)

@@ -1,0 +1,11 @@
+use Rattle.uvl_parser.specs.Reading.{many, behind_comma, with_front}
+use Rattle.uvl_parser.specs.Tests.{is_symbol}
+use Rattle.uvl_parser.specs.Readers.Expressions.{expression}
+use Rattle.uvl_lexer.specs.declared.token.Symbol.TheVariants.{Comma}
+use Rattle.uvl_parser.proofs.Turns.{TurnsLeft}
+use Rattle.uvl_parser.proofs.entries.more_rules.Given as goal
+
+abbrev pub invariant-loop-turn : goal.invariant-loop-turn
+invariant-loop-turn l =
+    TurnsLeft (is_symbol Comma) (behind_comma expression)
+    (with_front l.fn.rules (many (is_symbol Comma) (behind_comma expression) l.fn.tokens)) l.rules l._turn-end l._turn l.rest
