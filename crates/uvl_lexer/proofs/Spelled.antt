@@ -54,7 +54,7 @@ inner_is k n c cs h =
     shorter (suc m) (d ∷ ds) = ap (λ (t : List ℕ). d ∷ t) (shorter m ds)
 
 -- the characters in front that may stand in a name are one, where there are some
-quoted_name : (cs : List ℕ) → (prefix_len (is_of_class InQuotes) cs == 0) ≡ false → is_name (take (prefix_len (is_of_class InQuotes) cs) cs) ≡ true
+pub quoted_name : (cs : List ℕ) → (prefix_len (is_of_class InQuotes) cs == 0) ≡ false → is_name (take (prefix_len (is_of_class InQuotes) cs) cs) ≡ true
 quoted_name cs some =
     let n = prefix_len (is_of_class InQuotes) cs in
     let size : length (take n cs) ≡ n = omega (arith, length-take n cs, prefix_len-le-length (is_of_class InQuotes) cs) in
