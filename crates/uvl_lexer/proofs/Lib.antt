@@ -1,3 +1,4 @@
+pub mod AsciiFronts
 pub mod Counts
 pub mod Cutting
 pub mod Ends

@@ -3,7 +3,7 @@ use Rattle.std.proofs.Common.{◌≡◌, ◌+◌, length, drop}
 use Rattle.std.specs.Str.{chars}
 use Rattle.std.specs.List.{prefix_len}
 use Rattle.uvl_lexer.specs.Characters.{is_of_class}
-use Rattle.uvl_lexer.proofs.characters.count_while.Given as goal
+use Rattle.uvl_lexer.proofs.characters.count_characters_while.Given as goal
 
 abbrev pub invariant-loop-character : goal.invariant-loop-character
 invariant-loop-character l =
