@@ -4,10 +4,12 @@ use Rattle.std.specs.Prelude.{IfSome}
 use Rattle.std.specs.List.{prefix_len, list_all}
 use Rattle.std.specs.Char.{is_ascii_digit}
 use Rattle.std.specs.Option.{option_map}
+use Rattle.std.proofs.Math.Seq.{take-append_seam}
 use Rattle.std.proofs.lemmas.Bool.{cases_Bool, cond-true, cond-false, eqb-true, eqb-false, and_parts, and_from}
 use Rattle.std.proofs.lemmas.List.{take-append-drop}
 use Rattle.std.proofs.lemmas.List.Folds.{length-prefix_len}
 use Rattle.uvl_base.specs.Identifier.{begins_identifier, continues_identifier}
+use Rattle.uvl_base.specs.Name.{may_stand_in_name, is_name}
 use Rattle.uvl_lexer.specs.Characters.{is_of_class, begins_with, may_stand_in_text}
 use Rattle.uvl_lexer.specs.declared.characters.CharacterClass.TheVariants.{InIdentifier, Digit, InQuotes, InText}
 use Rattle.uvl_lexer.specs.declared.token.Symbol.{Symbol}
@@ -18,9 +20,8 @@ use Rattle.uvl_lexer.specs.declared.piece.Lexeme.TheVariants as spells
 use Rattle.uvl_lexer.specs.declared.piece.PieceKind.TheVariants as piece
 use Rattle.uvl_lexer.specs.Pieces.{Piece, piece_at, piece_behind, opening_of, plain_symbol, operator_at, or_operator, symbol_at, bang_at, equal_at, less_at, greater_at, slash_at, quoted_at, text_at, point_at, number_at, decimals_len, identifier_at, through_close, line_len, ends_line}
 use Rattle.uvl_lexer.specs.Forms.{HasForm, MayStandBefore, opens_comment, symbol_text, IsDigits}
-use Rattle.uvl_lexer.proofs.Names.{front_all}
+use Rattle.uvl_lexer.proofs.Names.{front_passes}
 use Rattle.uvl_lexer.proofs.Openings.{OpensBy, opens_by}
-use Rattle.uvl_lexer.proofs.Spelled.{quoted_name}
 
 -- a piece begins a text by its form, and has as many characters as is said
 pub record Found (text : List ℕ) (p : Piece) : Type 0 where
@@ -142,8 +143,11 @@ sign_found c cs p other (Some s) (rest, joined, size, some) e =
 
 -- ---- names and texts
 
-front_of_class : (p : ℕ → Bool) (cs : List ℕ) → list_all p (take (prefix_len p cs) cs) ≡ true
-front_of_class p cs = front_all p p (λ c h. h) cs
+-- the characters in front that may stand in a name are one, where there are some
+quoted_name : (cs : List ℕ) → (prefix_len (is_of_class InQuotes) cs == 0) ≡ false → is_name (take (prefix_len (is_of_class InQuotes) cs) cs) ≡ true
+quoted_name cs some =
+    let n = prefix_len (is_of_class InQuotes) cs in
+    and_from _ _ (ap (λ (k : ℕ). not (k == 0)) (length-prefix_len (is_of_class InQuotes) cs) ∙ ap not some) (front_passes may_stand_in_name cs)
 
 identifier_found : (c : ℕ) (cs : List ℕ) → begins_identifier c ≡ true → Found (c ∷ cs) (identifier_at cs)
 identifier_found c cs begins =
@@ -154,7 +158,7 @@ identifier_found c cs begins =
       joined = ap (λ (t : List ℕ). c ∷ t) (split n cs);
       size = omega (arith, length-prefix_len (is_of_class InIdentifier) cs);
       some = omega arith;
-      form = (c, take n cs, refl, begins, front_of_class continues_identifier cs);
+      form = (c, take n cs, refl, begins, front_passes continues_identifier cs);
       stands = tt;
     }
 
@@ -198,7 +202,7 @@ text_found cs p e =
             joined = between 39 n cs closed;
             size = omega (arith, length-append (take n cs) (39 ∷ []), length-prefix_len (is_of_class InText) cs);
             some = omega arith;
-            form = (take n cs, refl, front_of_class may_stand_in_text cs);
+            form = (take n cs, refl, front_passes may_stand_in_text cs);
             stands = tt;
           })
     ]
@@ -209,7 +213,7 @@ front_digits : (cs : List ℕ) → (prefix_len (is_of_class Digit) cs == 0) ≡ 
 front_digits cs some =
     let n = prefix_len (is_of_class Digit) cs in
     let not_none : n ≡ 0 → ⊥ = eqb-false n 0 some in
-    (omega (arith, length-prefix_len (is_of_class Digit) cs), front_of_class is_ascii_digit cs)
+    (omega (arith, length-prefix_len (is_of_class Digit) cs), front_passes is_ascii_digit cs)
 
 -- digits, and what follows them
 number_found : (d : ℕ) (ds rest : List ℕ) → list_all is_ascii_digit (d ∷ ds) ≡ true → Found (d ∷ ds ++ rest) (piece.Lexeme spells.Number, decimals_len rest + length ds + 1)
@@ -261,7 +265,7 @@ digit_found c cs digit =
     let n = prefix_len (is_of_class Digit) cs in
     found_at (c ∷ cs) (c ∷ take n cs ++ drop n cs) (number_at cs) (ap (λ (t : List ℕ). c ∷ t) (sym (split n cs)))
     (subst (λ (k : ℕ). Found (c ∷ take n cs ++ drop n cs) (piece.Lexeme spells.Number, decimals_len (drop n cs) + k + 1)) (length-prefix_len (is_of_class Digit) cs)
-    (number_found c (take n cs) (drop n cs) (and_from _ _ digit (front_of_class is_ascii_digit cs))))
+    (number_found c (take n cs) (drop n cs) (and_from _ _ digit (front_passes is_ascii_digit cs))))
 
 point_found : (cs : List ℕ) → Found (46 ∷ cs) (point_at cs)
 point_found cs =
@@ -525,3 +529,7 @@ opened_found opens.Sign c cs p is e = sign_found c cs p is (symbol_at c cs) (any
 pub found : (text : List ℕ) (p : Piece) → piece_at text ≡ Some p → Found text p
 found [] p e = absurd (let clash : ◌≡◌ {A = Option Piece} None (Some p) = e in cc)
 found (c ∷ cs) p e = opened_found (opening_of c) c cs p (opens_by c) e
+
+-- the piece is spelled by so many characters in front
+pub taken : (text : List ℕ) (p : Piece) (h : Found text p) → take p.1 text ≡ h.spelling
+taken text p h = ap (λ (n : ℕ). take n text) (sym h.size) ∙ ap (take (length h.spelling)) h.joined ∙ take-append_seam h.spelling h.rest

@@ -10,5 +10,4 @@ pub mod OneCut
 pub mod Openings
 pub mod Reached
 pub mod Sizes
-pub mod Spelled
 pub mod Splits

@@ -9,7 +9,7 @@ use Rattle.uvl_lexer.specs.Forms.{BeginsText, NoneBegins, IsLongest}
 use Rattle.uvl_lexer.specs.PieceByPiece.{SpelledPiece, IsCut, read_as, IsCutOnce, EachPieceIsTheLongest}
 use Rattle.uvl_lexer.specs.Pieces.{Piece, piece_at}
 use Rattle.uvl_lexer.proofs.Cutting.{cut_piece, cut_unread, cut_end}
-use Rattle.uvl_lexer.proofs.Found.{Found, found}
+use Rattle.uvl_lexer.proofs.Found.{Found, found, taken}
 use Rattle.uvl_lexer.proofs.Reached.{Reached, reached}
 
 -- ---- the longest piece
@@ -38,9 +38,6 @@ longest text p is h = record {
   begins = record { form = h.form; rest = h.rest; joined = h.joined; stands = h.stands };
   longest = λ kind spelling other. omega (arith, longest_read text p is kind spelling other, h.size);
 }
-
-taken : (text : List ℕ) (p : Piece) (h : Found text p) → take p.1 text ≡ h.spelling
-taken text p h = ap (λ (n : ℕ). take n text) (sym h.size) ∙ ap (take (length h.spelling)) h.joined ∙ take-append_seam h.spelling h.rest
 
 left : (text : List ℕ) (p : Piece) (h : Found text p) → drop p.1 text ≡ h.rest
 left text p h = ap (λ (n : ℕ). drop n text) (sym h.size) ∙ ap (drop (length h.spelling)) h.joined ∙ drop-append_seam h.spelling h.rest
