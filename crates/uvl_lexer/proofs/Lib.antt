@@ -1,4 +1,5 @@
 pub mod AsciiFronts
+pub mod Comments
 pub mod Counts
 pub mod Cutting
 pub mod Ends

@@ -5,7 +5,7 @@ ghost use Rattle.std.specs.List.{prefix_len};
 ghost use Rattle.std.specs.Str.{IsAscii};
 ghost use Rattle.uvl_base.specs.Identifier.{continues_identifier};
 ghost use Rattle.uvl_base.specs.Name.{may_stand_in_name};
-ghost use Rattle.uvl_lexer.specs.Characters.{is_of_class, is_byte_of_class, is_identifier_sign, begins_with, may_stand_in_text};
+ghost use Rattle.uvl_lexer.specs.Characters.{is_of_class, is_byte_of_class, is_identifier_sign, begins_with, may_stand_in_text, stays_in_line};
 
 use uvl_base::continues_identifier;
 
@@ -18,6 +18,8 @@ pub(crate) enum CharacterClass {
     InQuotes,
     /// What stands between single quotes.
     InText,
+    /// What is neither LF nor CR.
+    InLine,
 }
 
 /// The first character, and what follows it.
@@ -141,6 +143,7 @@ fn is_of_class(class: CharacterClass, character: char) -> bool
         CharacterClass::Digit => character.is_ascii_digit(),
         CharacterClass::InQuotes => may_stand_in_name(character),
         CharacterClass::InText => may_stand_in_text(character),
+        CharacterClass::InLine => stays_in_line(character),
     }
 }
 
@@ -154,6 +157,7 @@ fn is_byte_of_class(class: CharacterClass, byte: u8) -> bool
             CharacterClass::Digit => byte.is_ascii_digit(),
             CharacterClass::InQuotes => !matches!(byte, b'"' | b'\n' | b'\r'),
             CharacterClass::InText => !matches!(byte, b'\'' | b'\n' | b'\r'),
+            CharacterClass::InLine => !matches!(byte, b'\n' | b'\r'),
         }
 }
 
@@ -182,4 +186,10 @@ fn may_stand_in_text(character: char) -> bool
     ensures { result ≡ may_stand_in_text character }
 {
     !matches!(character, '\'' | '\n' | '\r')
+}
+
+fn stays_in_line(character: char) -> bool
+    ensures { result ≡ stays_in_line character }
+{
+    !matches!(character, '\n' | '\r')
 }
