@@ -12,3 +12,4 @@ pub mod Openings
 pub mod Reached
 pub mod Sizes
 pub mod Splits
+pub mod TokenLists

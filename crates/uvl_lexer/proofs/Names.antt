@@ -84,7 +84,7 @@ identifier-is_name cs (first, others, is, begins, all) =
     subst (λ (t : List ℕ). is_name t ≡ true) (sym is) (and_from _ _ (some_there first others) (and_from (may_stand_in_name first) _ (begins-may_stand first begins) stand))
 
 -- characters between quotes
-inner_is : (k : ℕ) (inside : List ℕ) → inner (k ∷ inside ++ k ∷ []) ≡ inside
+pub inner_is : (k : ℕ) (inside : List ℕ) → inner (k ∷ inside ++ k ∷ []) ≡ inside
 inner_is k inside =
     ap (λ (n : ℕ). take n (inside ++ k ∷ [])) (let size : length (k ∷ inside ++ k ∷ []) - 2 ≡ length inside = omega (arith, length-append inside (k ∷ [])) in size)
     ∙ take-append_seam inside (k ∷ [])

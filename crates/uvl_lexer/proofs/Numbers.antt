@@ -10,7 +10,7 @@ use Rattle.std.proofs.lemmas.List.{append-nil}
 use Rattle.std.proofs.lemmas.Str.{encodes-IsAscii, IsAscii-append}
 use Rattle.std.proofs.lemmas.Str.Ascii.{IsAscii-cons, IsAscii-nil}
 use Rattle.std.proofs.Math.Seq.{take-append_seam}
-use Rattle.uvl_base.specs.Number.{is_number, is_unsigned_number, is_point, unsigned, whole_digits, decimals}
+use Rattle.uvl_base.specs.Number.{is_number, is_unsigned_number, is_negative, is_point, unsigned, whole_digits, decimals}
 use Rattle.uvl_lexer.specs.Forms.{IsDigits, IsNumber}
 
 both : (a b : Bool) → a ≡ true → b ≡ true → (a && b) ≡ true
@@ -118,3 +118,41 @@ number-is_number cs (inl digits) = ap is_number (encodes-IsAscii cs (all_ascii c
 number-is_number cs (inr (whole, decimals, is, all, some)) =
     let ascii : IsAscii (whole ++ 46 ∷ decimals) = IsAscii-append whole (46 ∷ decimals) (all_ascii whole all) (IsAscii-cons 46 decimals (omega arith) (all_ascii decimals some.1)) in
     subst (λ (t : List ℕ). is_number (encode_utf8_all t) ≡ true) (sym is) (ap is_number (encodes-IsAscii _ ascii) ∙ decimal-is_number whole decimals all some)
+
+-- the bytes of a number with a point are its characters
+decimal_bytes : (whole ds : List ℕ) → list_all is_ascii_digit whole ≡ true → IsDigits ds → encode_utf8_all (whole ++ 46 ∷ ds) ≡ whole ++ 46 ∷ ds
+decimal_bytes whole ds all is =
+    encodes-IsAscii _ (IsAscii-append whole (46 ∷ ds) (all_ascii whole all) (IsAscii-cons 46 ds (omega arith) (all_ascii ds is.1)))
+
+digits-unsigned : (cs : List ℕ) → list_all is_ascii_digit cs ≡ true → is_negative cs ≡ false
+digits-unsigned [] all = refl
+digits-unsigned (c ∷ cs) all = no_sign c (first_of _ _ all)
+
+decimal-unsigned : (whole ds : List ℕ) → list_all is_ascii_digit whole ≡ true → is_negative (whole ++ 46 ∷ ds) ≡ false
+decimal-unsigned [] ds all = refl
+decimal-unsigned (c ∷ w) ds all = no_sign c (first_of _ _ all)
+
+-- a number has no sign
+pub number-unsigned : (cs : List ℕ) → IsNumber cs → is_negative (encode_utf8_all cs) ≡ false
+number-unsigned cs (inl digits) = ap is_negative (encodes-IsAscii cs (all_ascii cs digits.1)) ∙ digits-unsigned cs digits.1
+number-unsigned cs (inr (whole, ds, is, all, some)) =
+    subst (λ (t : List ℕ). is_negative (encode_utf8_all t) ≡ false) (sym is) (ap is_negative (decimal_bytes whole ds all some) ∙ decimal-unsigned whole ds all)
+
+plain_digits : (cs : List ℕ) → list_all is_ascii_digit cs ≡ true → unsigned cs ≡ cs
+plain_digits [] all = refl
+plain_digits (c ∷ cs) all = unsigned_is c cs (no_sign c (first_of _ _ all))
+
+digits-no_decimals : (cs : List ℕ) → list_all is_ascii_digit cs ≡ true → decimals cs ≡ []
+digits-no_decimals cs all =
+    let at : position_or_len is_point cs ≡ length cs = ap (position_or_len is_point) (sym (append-nil cs)) ∙ point_behind cs [] all ∙ omega arith in
+    ap (λ (u : List ℕ). drop (position_or_len is_point u + 1) u) (plain_digits cs all) ∙ ap (λ (n : ℕ). drop (n + 1) cs) at ∙ drop_whole cs
+
+no_point_where : (b : Bool) → b ≡ true → not b ≡ true → ⊥
+no_point_where true h k = cc
+no_point_where false h k = cc
+
+-- a number without a point has no decimals
+pub number-no_decimals : (cs : List ℕ) → IsNumber cs → not (list_any is_point (encode_utf8_all cs)) ≡ true → decimals (encode_utf8_all cs) ≡ []
+number-no_decimals cs (inl digits) h = ap decimals (encodes-IsAscii cs (all_ascii cs digits.1)) ∙ digits-no_decimals cs digits.1
+number-no_decimals cs (inr (whole, ds, is, all, some)) h =
+    absurd (no_point_where _ (ap (λ (t : List ℕ). list_any is_point (encode_utf8_all t)) is ∙ ap (list_any is_point) (decimal_bytes whole ds all some) ∙ has_point whole ds) h)

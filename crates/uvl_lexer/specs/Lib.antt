@@ -10,5 +10,6 @@ pub mod PieceByPiece
 pub mod Positions
 pub mod Reading
 pub mod Spellings
+pub mod TokenList
 pub mod Turns
 pub mod Words
