@@ -1,13 +1,10 @@
 -- The names that an assignment chooses are those that its values mark.
-use Rattle.std.proofs.Common.{◌≡◌, ℕ, ◌+◌, ◌<◌, ◌≤◌, zero, suc, nat_le, Bool, true, false, not, ◌&&◌, List, [], ◌∷◌, length, slice_index, refl, sym, ap, ◌∙◌, subst, arith, if◌then◌else◌}
-use Rattle.std.specs.Prelude.{slice_index_or}
+use Rattle.std.proofs.Common.{◌≡◌, ℕ, ◌+◌, ◌<◌, zero, suc, nat_le, Bool, true, false, not, ◌&&◌, List, [], ◌∷◌, length, refl, sym, ap, ◌∙◌, subst, arith, if◌then◌else◌}
 use Rattle.dd_store.specs.Follow.{assignment_of}
-use Rattle.uvl_model.specs.Names.{marked, feature_names, chosen_names}
-use Rattle.uvl_model.specs.Rows.{Rows}
-use Rattle.uvl_model.specs.Tree.{Tree, names_of}
+use Rattle.uvl_model.specs.Names.{marked}
 use Rattle.uvl_compile.specs.declared.outline.Entry.{Entry}
 use Rattle.uvl_compile.specs.Choice.{is_allowed}
-use Rattle.uvl_compile.specs.Chosen.{chosen_from, chosen_under}
+use Rattle.uvl_compile.specs.Chosen.{chosen_from}
 
 -- the values of the variables from n on, one for each name
 abbrev pub values_from : ℕ → (ℕ → Bool) → List (List ℕ) → List Bool

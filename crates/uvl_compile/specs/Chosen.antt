@@ -1,7 +1,5 @@
 -- The features that an assignment chooses. Variable k stands for feature k; other variables choose nothing.
-use Rattle.std.specs.Prelude.{◌≡◌, ℕ, ◌+◌, Bool, List, [], ◌∷◌, if◌then◌else◌}
-use Rattle.dd_store.specs.Follow.{assignment_of}
-use Rattle.uvl_model.specs.Names.{marked}
+use Rattle.std.specs.Prelude.{ℕ, ◌+◌, Bool, List, [], ◌∷◌, if◌then◌else◌}
 use Rattle.uvl_model.specs.Tree.{Tree, names_of}
 
 -- those of the names whose variable is true, the first of them having number n

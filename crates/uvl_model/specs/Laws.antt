@@ -33,11 +33,11 @@ RowsCheckProducts =
     (tree : Tree) (rows : Rows) (marks : List Bool) → IsSound rows → Spells tree rows →
     is_product tree (chosen_names rows marks) ≡ (is_marked marks (numbered 0) && list_all (group_holds marks) rows.groups)
 
--- marks that stand for a set are a product where the set is one
+-- the names that marks mark are a product where each set is one for which the marks stand
 abbrev pub MarksGiveProducts : Type 0
 MarksGiveProducts =
     (tree : Tree) (rows : Rows) (marks : List Bool) (set : List (List ℕ)) → IsSound rows → Spells tree rows → StandFor (names_of tree) marks set →
-    is_product tree (chosen_names rows marks) ≡ is_product tree set
+    is_product tree (marked (names_of tree) marks) ≡ is_product tree set
 
 -- a tree is void exactly where no list of names whatever is a product of it
 abbrev pub VoidTreesHaveNoProduct : Type 0

@@ -3,6 +3,7 @@
 
 mod answer;
 mod command_line;
+mod compiled;
 mod in_memory;
 mod laws;
 mod lines;
@@ -12,7 +13,6 @@ mod script;
 mod status;
 mod thin;
 mod top;
-mod words;
 
 pub use in_memory::run_in_memory;
 pub use laws::{every_script_has_one_cut, thin_files_have_one_tree};
