@@ -97,7 +97,7 @@ fn answer_model<F: Files, S: Source, K: Sink>(
 }
 
 /// Compiles a model, where the budget suffices, and answers the script by it.
-fn answer_by_model<S: Source, K: Sink>(
+pub(crate) fn answer_by_model<S: Source, K: Sink>(
     alloc: Global,
     model: Model,
     budget: u32,
