@@ -5,6 +5,7 @@ ghost use Rattle.uvl_base.specs.Name.{is_name, may_stand_in_name};
 
 use crate::text::Text;
 use std::alloc::{AllocError, Global};
+use std::default::MadeWith;
 use std::marker::Model;
 use thiserror::Error;
 
@@ -29,23 +30,26 @@ impl From<AllocError> for NameFault {
     }
 }
 
+/// What a blank name reads as.
+const BLANK: &str = "_";
+
 /// A name: at least one character, none of them a double quote, LF or CR. Contracts see its
 /// characters. What a UVL file writes as an identifier and what it writes in double quotes are
 /// one name where their characters are the same.
-#[derive(Debug, Drop)]
+#[derive(Clone, Debug, Drop)]
 pub struct Name {
     text: Text,
 }
 
 impl Model for Name {
     ghost use Rattle.std.specs.Prelude.{List, ℕ, IsTrue};
-    ghost use Rattle.uvl_base.specs.Name.{is_name};
+    ghost use Rattle.uvl_base.specs.Name.{is_name, characters_of};
 
     ghost Value = { List ℕ };
 
-    ghost view = { λ n. n.text };
+    ghost view = { λ n. characters_of n.text };
 
-    ghost invariant = { λ n. IsTrue (is_name n.text) };
+    ghost invariant = { λ n. IsTrue (is_name (characters_of n.text)) };
 }
 
 impl Name {
@@ -67,7 +71,17 @@ impl Name {
         ensures bytes { result.now ≡ encode_utf8_all self.now }
         ensures name { IsTrue (is_name self.now) }
     {
-        self.text.text()
+        let text = self.text.text();
+        if text.is_empty() { BLANK } else { text }
+    }
+}
+
+/// A blank name takes no memory. It stands where a short list keeps room for more names.
+impl MadeWith<Global> for Name {
+    fn made_with(alloc: Global) -> Name {
+        Name {
+            text: Text::made_with(alloc),
+        }
     }
 }
 

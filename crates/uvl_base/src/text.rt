@@ -2,13 +2,14 @@
 ghost use Rattle.std.specs.Prelude.{◌≡◌, IfOk, chars, encode_utf8_all};
 
 use std::alloc::{AllocError, Global};
+use std::default::MadeWith;
 use std::marker::Model;
 
 /// The error of a call that nothing but want of memory can refuse.
 pub type OutOfMemory = AllocError;
 
 /// A text that contracts see as the list of its characters, whatever room it has been given.
-#[derive(Debug, Drop)]
+#[derive(Clone, Debug, Drop)]
 pub struct Text {
     text: String,
 }
@@ -36,5 +37,18 @@ impl Text {
         ensures bytes { result.now ≡ encode_utf8_all self.now }
     {
         self.text.as_str()
+    }
+}
+
+/// An empty text takes no memory.
+impl MadeWith<Global> for Text {
+    ghost use Rattle.std.specs.Prelude.{◌≡◌, []};
+
+    ghost is_made_with = { λ t. t ≡ [] };
+
+    fn made_with(alloc: Global) -> Text {
+        Text {
+            text: String::new(alloc),
+        }
     }
 }
