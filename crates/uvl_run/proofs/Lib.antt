@@ -1,3 +1,4 @@
+pub mod CommandLine
 pub mod Cutting
 pub mod Exactly
 pub mod FirstLine

@@ -7,7 +7,7 @@ ghost use Rattle.uvl_run.specs.Run.{Answers, CountsReads, fault_line};
 ghost use Rattle.uvl_run.specs.Status.{PutsLast, is_read_fault, is_write_fault};
 
 use crate::Status;
-use crate::command_line::{USAGE_LINE, model_path};
+use crate::command_line::{USAGE_LINE, read_words};
 use crate::load::{LoadFault, load_model};
 use crate::script::answer_script;
 use std::alloc::{AllocError, Global};
@@ -50,8 +50,10 @@ fn answer_words<F: Files, S: Source, K: Sink>(
     ensures writes_counted { Counts (K.faults out.old) (K.faults out.new) (is_write_fault result) }
     ensures same_files { F.told files.new ≡ F.told files.old }
 {
-    let Some(path) = model_path(words) else {
-        return write_last(alloc, USAGE_LINE, Status::Usage, out);
+    let path = match read_words(alloc, words) {
+        Ok(Some(request)) => request.path,
+        Ok(None) => return write_last(alloc, USAGE_LINE, Status::Usage, out),
+        Err(_) => return Status::NoMemory,
     };
     match load_model(alloc, files, path) {
         Ok(model) => answer_script(alloc, model, input, out),
