@@ -1,4 +1,5 @@
 pub mod CommandLine
+pub mod CommandLineForms
 pub mod CommandLineRules
 pub mod Exactly
 pub mod Examples

@@ -130,7 +130,7 @@ option_word b bs rest f = bare (bytes_eq (45 ∷ 45 ∷ b ∷ bs) (codes "--budg
     bare false t = joint (starts_with nat_eq (45 ∷ 45 ∷ b ∷ bs) (codes "--budget=")) refl t
 
 -- equality is the same from both sides
-other_way : (a b : ℕ) → nat_eq a b ≡ false → nat_eq b a ≡ false
+pub other_way : (a b : ℕ) → nat_eq a b ≡ false → nat_eq b a ≡ false
 other_way a b e = go (nat_eq b a) refl
   where
     go : (t : Bool) → nat_eq b a ≡ t → nat_eq b a ≡ false

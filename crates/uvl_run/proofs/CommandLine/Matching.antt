@@ -9,6 +9,7 @@ use Rattle.clap.specs.Walk.{option as waits_for}
 use Rattle.clap.proofs.OnLiterals.{clap_on_literals}
 use Rattle.uvl_run.specs.CommandLine.{Argument, budget, model, refused, arguments_of, budget_of, request_by, request_for}
 use Rattle.uvl_run.proofs.CommandLine.Walks.{Standing, nothing, value_found, value_held, path_held, value_then_path, path_then_value_found, path_then_value_held, held_at, place_at, arguments_at, walk_at, outcome, goes_on, behind, short_stops, budget_row, model_row}
+use Rattle.uvl_run.proofs.CommandLine.Refusals.{no_budget}
 use Rattle.uvl_run.proofs.CommandLine.Fronts.{Front, ended, dashes, flag, joined, unknown, short, empty, plain, arguments-dashes, arguments-joined, arguments-unknown, arguments-short, arguments-empty, arguments-plain}
 
 -- ---- the option without a value, and the option twice
@@ -134,10 +135,6 @@ refused_next (path_held p) others = refl
 refused_next (value_then_path v p) others = refl
 refused_next (path_then_value_found p v) others = refl
 refused_next (path_then_value_held p v) others = refl
-
-no_budget : (path : Text) → request_for path None ≡ None
-no_budget [] = refl
-no_budget (b ∷ bs) = refl
 
 -- a value that writes no budget
 bad_value : (v : Text) (others : List Argument) → budget_of v ≡ None → request_by (budget v ∷ others) ≡ None

@@ -13,7 +13,8 @@ is_bad (budget value) = not (is_budget value)
 is_bad (model path) = false
 is_bad refused = true
 
-no_budget : (path : List ℕ) → request_for path None ≡ None
+-- a value that writes no budget asks for nothing
+pub no_budget : (path : List ℕ) → request_for path None ≡ None
 no_budget [] = refl
 no_budget (b ∷ bs) = refl
 

@@ -131,16 +131,6 @@ short_stops rows pending place w b bs rest e c first alone =
 
 -- ---- behind `--`
 
-pub ends : (s : Standing) (trailing : Bool) → outcome (walk_at (held_at s) (place_at s) trailing idle) [] ≡ request_by (arguments_at s)
-unfolding clap_on_literals
-ends nothing trailing = refl
-ends (value_found v) trailing = refl
-ends (value_held v) trailing = refl
-ends (path_held p) trailing = refl
-ends (value_then_path v p) trailing = refl
-ends (path_then_value_found p v) trailing = refl
-ends (path_then_value_held p v) trailing = refl
-
 pub behind : (s : Standing) (words : List Text)
     → outcome (walk_at (held_at s) (place_at s) true idle) words ≡ request_by (arguments_at s ++ map model words)
 unfolding clap_on_literals
