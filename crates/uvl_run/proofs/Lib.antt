@@ -1,3 +1,4 @@
+pub mod CommandLine
 pub mod Compiling
 pub mod Cutting
 pub mod Exactly

@@ -1,5 +1,7 @@
 pub mod Budget
 pub mod CommandLine
+pub mod CommandLineForms
+pub mod CommandLineRules
 pub mod Compiled
 pub mod Exactly
 pub mod Examples

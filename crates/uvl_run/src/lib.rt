@@ -15,7 +15,9 @@ mod thin;
 mod top;
 
 pub use in_memory::run_in_memory;
-pub use laws::{every_script_has_one_cut, thin_files_have_one_tree};
+pub use laws::{
+    every_script_has_one_cut, the_command_line_has_these_forms, thin_files_have_one_tree,
+};
 pub use status::Status;
 pub use top::run;
 
