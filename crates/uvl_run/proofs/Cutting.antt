@@ -57,10 +57,6 @@ open_line_from-none begun (b ∷ bs) h =
     let parts = or_parts (b == 10) (has_lf bs) h in
     at_other-open b bs begun parts.0 ∙ open_line_from-none (begun ++ b ∷ []) bs parts.1 ∙ one_more begun b bs
 
--- and so the open line of bytes is what has begun, and then the bytes behind the last LF
-pub open_line_from-rest : (begun rest next line : List ℕ) → has_lf rest ≡ false → next ≡ begun ++ rest → open_line_from begun rest ≡ line → next ≡ line
-open_line_from-rest begun rest next line h kept is_line = kept ∙ sym (open_line_from-none begun rest h) ∙ is_line
-
 -- an LF ends the line that has begun
 pub ended_lines_from-line : (begun line rest : List ℕ) → has_lf line ≡ false → ended_lines_from begun (line ++ 10 ∷ rest) ≡ (begun ++ line) ∷ ended_lines_from [] rest
 ended_lines_from-line begun line rest h =

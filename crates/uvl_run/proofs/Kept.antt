@@ -6,7 +6,8 @@ use Rattle.std.proofs.lemmas.List.{append-nil, length-take-le, take_all, take_mi
 use Rattle.uvl_model.specs.Tree.{Tree}
 use Rattle.uvl_script.specs.declared.fault.LineFault.TheVariants.{TooLong}
 use Rattle.uvl_script.specs.Lines.{without_cr, most_line_bytes, reading_of, reading_of_words, words_of_line}
-use Rattle.uvl_run.specs.Lines.{ended_lines_from, open_line_from, last_line, most_kept_bytes, kept}
+use Rattle.uvl_run.specs.Lines.{ended_lines_from, open_line_from, last_line, has_lf, most_kept_bytes, kept}
+use Rattle.uvl_run.proofs.Cutting.{open_line_from-none}
 use Rattle.uvl_run.specs.Replies.{reply_to, reply_to_reading, replies_to}
 
 -- at most one byte is a line's CR
@@ -99,6 +100,10 @@ open-alike (x ∷ xs) a b same =
       | true ↦ refl
       | false ↦ open-alike xs (a ++ x ∷ []) (b ++ x ∷ []) (alike-append a b (x ∷ []) same)
     ]
+
+-- of a line that goes on what is kept of both parts is kept
+pub open-rest : (begun rest next line : List ℕ) → has_lf rest ≡ false → next ≡ kept (begun ++ rest) → kept (open_line_from begun rest) ≡ line → next ≡ line
+open-rest begun rest next line none is is_line = is ∙ ap kept (sym (open_line_from-none begun rest none)) ∙ is_line
 
 -- the replies to lines of which the first is kept
 pub replies-kept : (tree : Tree) (begun bytes : List ℕ) → replies_to tree (ended_lines_from (kept begun) bytes) ≡ replies_to tree (ended_lines_from begun bytes)

@@ -4,7 +4,8 @@ use Rattle.std.proofs.lemmas.Result.{err_from_is_err_and}
 use Rattle.uvl_model.specs.Rows.{Rows}
 use Rattle.uvl_model.specs.Spelling.{Spells}
 use Rattle.uvl_run.specs.Lines.{open_line_from, kept}
-use Rattle.uvl_run.proofs.Cutting.{open_line_from-line, open_line_from-none}
+use Rattle.uvl_run.proofs.Cutting.{open_line_from-line}
+use Rattle.uvl_run.proofs.Kept.{open-rest}
 use Rattle.uvl_run.proofs.Told.{front_of_whole}
 use Rattle.uvl_run.proofs.Progress.{stops, goes_on, ends}
 use Rattle.uvl_run.proofs.script.Script.answer_piece.Goals as goal
@@ -43,7 +44,7 @@ returns-in_err-keep-clause-replies g c = λ tree spells.
 pub returns-clause-begun : goal.returns-clause-begun
 returns-clause-begun g c =
     let l = c.loop-front in
-    c.in_ok-keep.ensures.line ∙ ap kept (sym (open_line_from-none l.self.line.items l.rest.now c.in_default.ensures)) ∙ l.invariant.same_open
+    open-rest l.self.line.items l.rest.now _ _ c.in_default.ensures c.in_ok-keep.ensures.line l.invariant.same_open
 
 pub returns-clause-replies : goal.returns-clause-replies
 returns-clause-replies g c = λ tree spells.
