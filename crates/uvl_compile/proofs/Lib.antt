@@ -1,5 +1,6 @@
 pub mod GroupTests
 pub mod Allowed
+pub mod ChosenNames
 pub mod Growing
 pub mod Rows
 pub mod Entries

@@ -1,6 +1,7 @@
 pub mod Thin
 pub mod Outline
 pub mod Choice
+pub mod Chosen
 pub mod Laws
 pub mod Entering
 pub mod Held

@@ -1,11 +1,17 @@
-//! A law of the definitions. The function does nothing: what it ensures is the law.
-ghost use Rattle.uvl_compile.specs.Laws.{OutlineTellsProducts};
+//! Laws of the definitions. The functions do nothing: what they ensure is the law.
+ghost use Rattle.uvl_compile.specs.Laws.{OutlineTellsProducts, MarksChooseFeatures};
 
-use uvl_model::rows_check_products;
+use uvl_model::{rows_check_products, rows_give_names};
 
 /// The outline of a model with mandatory and optional groups tells its products.
 pub fn outline_tells_products()
     ensures { OutlineTellsProducts }
 {
     rows_check_products();
+    rows_give_names();
 }
+
+/// A row of marks, read as an assignment, chooses the features that it marks.
+pub fn marks_choose_features()
+    ensures { MarksChooseFeatures }
+{}

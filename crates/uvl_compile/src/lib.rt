@@ -7,7 +7,7 @@ mod outline;
 mod products;
 mod row;
 
-pub use laws::outline_tells_products;
+pub use laws::{marks_choose_features, outline_tells_products};
 pub use products::compile;
 
 #[cfg(test)]

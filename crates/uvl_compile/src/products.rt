@@ -1,12 +1,11 @@
 //! The diagram of a model's products, made from the last feature to the first.
-ghost use Rattle.std.specs.Prelude.{◌≡◌, ℕ, ◌+◌, ◌*◌, ◌<◌, ◌≤◌, Bool, List, [], length, IfOk, OnErr};
+ghost use Rattle.std.specs.Prelude.{◌≡◌, ℕ, ◌+◌, ◌*◌, ◌<◌, ◌≤◌, Bool, [], length, IfOk, OnErr};
 ghost use Rattle.dd_store.specs.Changes.{KeepsHandles, KeepsRows, KeepsTops, KeepsValues, GainsHandle};
-ghost use Rattle.dd_store.specs.Follow.{assignment_of};
 ghost use Rattle.dd_store.specs.Table.{IsSound, node_count, value_of};
-ghost use Rattle.uvl_model.specs.Names.{chosen_names};
 ghost use Rattle.uvl_model.specs.Product.{is_product};
 ghost use Rattle.uvl_model.specs.Spelling.{Spells};
 ghost use Rattle.uvl_model.specs.Tree.{Tree};
+ghost use Rattle.uvl_compile.specs.Chosen.{chosen_under};
 ghost use Rattle.uvl_compile.specs.Entering.{AreShallow};
 ghost use Rattle.uvl_compile.specs.Held.{HoldsMore, Grows};
 ghost use Rattle.uvl_compile.specs.Row.{IsAscending, IsRow};
@@ -31,8 +30,8 @@ pub fn compile(alloc: Global, store: &mut Store, model: &Model) -> Result<Handle
     requires room { node_count store.old + 64 * length model.now.features ≤ store.old.budget }
 
     // The answered handle.
-    ensures products { IfOk result (λ h. (tree : Tree) (marks : List Bool) → Spells tree model.now
-        → value_of store.new h (assignment_of marks) ≡ is_product tree (chosen_names model.now marks)) }
+    ensures products { IfOk result (λ h. (tree : Tree) (a : ℕ → Bool) → Spells tree model.now
+        → value_of store.new h a ≡ is_product tree (chosen_under a tree)) }
 
     // The live handles, and their values.
     ensures gained { IfOk result (GainsHandle store.old store.new) }

@@ -234,7 +234,7 @@ BegunReads levels line units =
 
 mutual
   -- the layout by lines is what is read one token after another
-  by_lines : (levels : List ℕ) (units : Units) → laid_out levels (lines_from None units) ≡ read_units false levels units
+  pub by_lines : (levels : List ℕ) (units : Units) → laid_out levels (lines_from None units) ≡ read_units false levels units
   by_lines levels (Finished p) = refl
   by_lines levels (Stopped p kind) = refl
   by_lines levels (Refused p kind) = refl

@@ -1,8 +1,15 @@
+pub mod AsciiFronts
+pub mod Comments
 pub mod Counts
 pub mod Cutting
+pub mod Ends
+pub mod Found
 pub mod Laying
 pub mod Names
 pub mod Numbers
+pub mod OneCut
+pub mod Openings
+pub mod Reached
 pub mod Sizes
-pub mod Spelled
 pub mod Splits
+pub mod TokenLists

@@ -1,20 +1,17 @@
 -- The spelling of a number is one.
-use Rattle.std.proofs.Common.{◌≡◌, ℕ, suc, ◌+◌, ◌<◌, ◌==◌, Bool, true, false, not, ◌&&◌, ◌||◌, List, [], ◌∷◌, ◌++◌, length, take, drop, refl, sym, ap, ◌∙◌, subst, inl, inr, arith}
+use Rattle.std.proofs.Common.{◌≡◌, ℕ, suc, ◌+◌, ◌<◌, ◌≤◌, ◌==◌, Bool, true, false, not, ◌&&◌, ◌||◌, List, [], ◌∷◌, ◌++◌, length, take, drop, refl, sym, ap, ◌∙◌, subst, inl, inr, arith}
 use Rattle.std.specs.Prelude.{encode_utf8_all}
-use Rattle.std.specs.List.{list_all, list_any, prefix_len, position_or_len}
+use Rattle.std.specs.List.{list_all, list_any, position_or_len}
 use Rattle.std.specs.Char.{is_ascii_digit}
 use Rattle.std.specs.Str.{IsAscii}
-use Rattle.std.proofs.lemmas.Bool.{cases_Bool, cond-true, cond-false, eqb-true}
+use Rattle.std.proofs.lemmas.Bool.{cond-true, cond-false}
 use Rattle.std.proofs.lemmas.Bool.Decides.{nat_tests}
 use Rattle.std.proofs.lemmas.List.{append-nil}
 use Rattle.std.proofs.lemmas.Str.{encodes-IsAscii, IsAscii-append}
 use Rattle.std.proofs.lemmas.Str.Ascii.{IsAscii-cons, IsAscii-nil}
-use Rattle.std.proofs.Math.Seq.{take-append_seam, take-add}
-use Rattle.uvl_base.specs.Number.{is_number, is_unsigned_number, is_point, unsigned, whole_digits, decimals}
-use Rattle.uvl_lexer.specs.Characters.{is_of_class}
-use Rattle.uvl_lexer.specs.declared.characters.CharacterClass.TheVariants.{Digit}
-use Rattle.uvl_lexer.specs.Pieces.{decimals_len, number_at}
-use Rattle.uvl_lexer.proofs.Names.{front_all}
+use Rattle.std.proofs.Math.Seq.{take-append_seam}
+use Rattle.uvl_base.specs.Number.{is_number, is_unsigned_number, is_negative, is_point, unsigned, whole_digits, decimals}
+use Rattle.uvl_lexer.specs.Forms.{IsDigits, IsNumber}
 
 both : (a b : Bool) → a ≡ true → b ≡ true → (a && b) ≡ true
 both true b ha hb = hb
@@ -100,85 +97,62 @@ point_number w ds hw hd some plain =
     ∙ ap (λ (u : List ℕ). is_unsigned_number true w u) behind
     ∙ both _ _ (both _ _ hw hd) (ap not some)
 
--- the bytes of such characters are they themselves
-pub record SpellsNumber (t : List ℕ) : Type 0 where
-  pub number : is_number t ≡ true
-  pub ascii : IsAscii t
-
-pub number_bytes : (t : List ℕ) → SpellsNumber t → is_number (encode_utf8_all t) ≡ true
-number_bytes t h = ap is_number (encodes-IsAscii t h.ascii) ∙ h.number
-
 some_there : (x : ℕ) (xs : List ℕ) → (length (x ∷ xs) == 0) ≡ false
 some_there x xs = grind (arith, nat_tests)
 
-front_digits : (cs : List ℕ) → list_all is_ascii_digit (take (prefix_len (is_of_class Digit) cs) cs) ≡ true
-front_digits cs = front_all (is_of_class Digit) is_ascii_digit (λ c h. h) cs
+digits_there : (ds : List ℕ) → 1 ≤ length ds → (length ds == 0) ≡ false
+digits_there [] some = absurd (omega arith)
+digits_there (d ∷ ds) some = some_there d ds
 
--- there are digits in front where their count isn't 0
-front_some : (cs : List ℕ) → (prefix_len (is_of_class Digit) cs == 0) ≡ false → (length (take (prefix_len (is_of_class Digit) cs) cs) == 0) ≡ false
-front_some [] h = h
-front_some (c ∷ cs) h =
-    elim (cases_Bool (is_ascii_digit c)) [
-      | inl passes ↦
-          let e : prefix_len (is_of_class Digit) (c ∷ cs) ≡ suc (prefix_len (is_of_class Digit) cs) = cond-true (is_ascii_digit c) _ _ passes ∙ omega arith in
-          ap (λ (n : ℕ). length (take n (c ∷ cs)) == 0) e ∙ some_there c (take (prefix_len (is_of_class Digit) cs) cs)
-      | inr fails ↦
-          let e : prefix_len (is_of_class Digit) (c ∷ cs) ≡ 0 = cond-false (is_ascii_digit c) _ _ fails in
-          let no : true ≡ false = sym (ap (λ (n : ℕ). n == 0) e) ∙ h in
-          absurd (cc)
-    ]
+digits-is_number : (cs : List ℕ) → IsDigits cs → is_number cs ≡ true
+digits-is_number [] is = absurd (omega (arith, is.0))
+digits-is_number (c ∷ cs) is = whole_number (c ∷ cs) is.1 (some_there c cs) (unsigned_is c cs (no_sign c (first_of _ _ is.1)))
 
--- digits behind a point
-pub point_digits : (cs : List ℕ) → (prefix_len (is_of_class Digit) cs == 0) ≡ false → SpellsNumber (take (prefix_len (is_of_class Digit) cs + 1) (46 ∷ cs))
-point_digits cs some =
-    let n = prefix_len (is_of_class Digit) cs in
-    let e : take (n + 1) (46 ∷ cs) ≡ 46 ∷ take n cs = ap (λ (k : ℕ). take k (46 ∷ cs)) (let one : n + 1 ≡ suc n = omega arith in one) in
-    subst (λ (t : List ℕ). SpellsNumber t) (sym e) (record {
-      number = point_number [] (take n cs) refl (front_digits cs) (front_some cs some) refl;
-      ascii = IsAscii-cons 46 (take n cs) (omega arith) (all_ascii (take n cs) (front_digits cs));
-    })
+decimal-is_number : (whole ds : List ℕ) → list_all is_ascii_digit whole ≡ true → IsDigits ds → is_number (whole ++ 46 ∷ ds) ≡ true
+decimal-is_number [] ds all is = point_number [] ds refl is.1 (digits_there ds is.0) refl
+decimal-is_number (c ∷ w) ds all is = point_number (c ∷ w) ds all is.1 (digits_there ds is.0) (unsigned_is c (w ++ 46 ∷ ds) (no_sign c (first_of _ _ all)))
 
--- what the point and the digits behind a number's first digits are
-tail_spells : (c : ℕ) (w r : List ℕ) → is_ascii_digit c ≡ true → list_all is_ascii_digit (c ∷ w) ≡ true → SpellsNumber ((c ∷ w) ++ take (decimals_len r) r)
-tail_spells c w [] is h = whole c w is h
-  where
-    whole : (x : ℕ) (xs : List ℕ) → is_ascii_digit x ≡ true → list_all is_ascii_digit (x ∷ xs) ≡ true → SpellsNumber ((x ∷ xs) ++ [])
-    whole x xs ix hx = subst (λ (t : List ℕ). SpellsNumber t) (sym (append-nil (x ∷ xs))) (record {
-      number = whole_number (x ∷ xs) hx (some_there x xs) (unsigned_is x xs (no_sign x ix));
-      ascii = all_ascii (x ∷ xs) hx;
-    })
-tail_spells c w (d ∷ ds) is h =
-    elim (cases_Bool (d == 46)) [
-      | inr other ↦ alone (cond-false (d == 46) _ _ other)
-      | inl point ↦ elim (cases_Bool (prefix_len (is_of_class Digit) ds == 0)) [
-        | inl none ↦ alone (cond-true (d == 46) _ _ point ∙ cond-true (prefix_len (is_of_class Digit) ds == 0) _ _ none)
-        | inr some ↦ with_digits (eqb-true d 46 point) some
-      ]
-    ]
-  where
-    alone : decimals_len (d ∷ ds) ≡ 0 → SpellsNumber ((c ∷ w) ++ take (decimals_len (d ∷ ds)) (d ∷ ds))
-    alone e = subst (λ (n : ℕ). SpellsNumber ((c ∷ w) ++ take n (d ∷ ds))) (sym e)
-        (subst (λ (t : List ℕ). SpellsNumber t) (sym (append-nil (c ∷ w))) (record {
-          number = whole_number (c ∷ w) h (some_there c w) (unsigned_is c w (no_sign c is));
-          ascii = all_ascii (c ∷ w) h;
-        }))
+-- the bytes of a number are its characters, and write it
+pub number-is_number : (cs : List ℕ) → IsNumber cs → is_number (encode_utf8_all cs) ≡ true
+number-is_number cs (inl digits) = ap is_number (encodes-IsAscii cs (all_ascii cs digits.1)) ∙ digits-is_number cs digits
+number-is_number cs (inr (whole, decimals, is, all, some)) =
+    let ascii : IsAscii (whole ++ 46 ∷ decimals) = IsAscii-append whole (46 ∷ decimals) (all_ascii whole all) (IsAscii-cons 46 decimals (omega arith) (all_ascii decimals some.1)) in
+    subst (λ (t : List ℕ). is_number (encode_utf8_all t) ≡ true) (sym is) (ap is_number (encodes-IsAscii _ ascii) ∙ decimal-is_number whole decimals all some)
 
-    with_digits : d ≡ 46 → (prefix_len (is_of_class Digit) ds == 0) ≡ false → SpellsNumber ((c ∷ w) ++ take (decimals_len (d ∷ ds)) (d ∷ ds))
-    with_digits point some =
-        let n = prefix_len (is_of_class Digit) ds in
-        let e : take (decimals_len (d ∷ ds)) (d ∷ ds) ≡ 46 ∷ take n ds =
-        ap (λ (x : ℕ). take (decimals_len (x ∷ ds)) (x ∷ ds)) point
-        ∙ ap (λ (k : ℕ). take k (46 ∷ ds)) (cond-false (n == 0) _ _ some ∙ (let one : n + 1 ≡ suc n = omega arith in one)) in
-        subst (λ (t : List ℕ). SpellsNumber ((c ∷ w) ++ t)) (sym e) (record {
-          number = point_number (c ∷ w) (take n ds) h (front_digits ds) (front_some ds some) (unsigned_is c (w ++ 46 ∷ take n ds) (no_sign c is));
-          ascii = IsAscii-append (c ∷ w) (46 ∷ take n ds) (all_ascii (c ∷ w) h) (IsAscii-cons 46 (take n ds) (omega arith) (all_ascii (take n ds) (front_digits ds)));
-        })
+-- the bytes of a number with a point are its characters
+decimal_bytes : (whole ds : List ℕ) → list_all is_ascii_digit whole ≡ true → IsDigits ds → encode_utf8_all (whole ++ 46 ∷ ds) ≡ whole ++ 46 ∷ ds
+decimal_bytes whole ds all is =
+    encodes-IsAscii _ (IsAscii-append whole (46 ∷ ds) (all_ascii whole all) (IsAscii-cons 46 ds (omega arith) (all_ascii ds is.1)))
 
--- a number, behind its first digit
-pub number_digits : (c : ℕ) (cs : List ℕ) → is_ascii_digit c ≡ true → SpellsNumber (take (number_at cs).1 (c ∷ cs))
-number_digits c cs is =
-    let n = prefix_len (is_of_class Digit) cs in
-    let k = decimals_len (drop n cs) in
-    let e : take (k + n + 1) (c ∷ cs) ≡ c ∷ (take n cs ++ take k (drop n cs)) =
-    ap (λ (m : ℕ). take m (c ∷ cs)) (let one : k + n + 1 ≡ suc (n + k) = omega arith in one) ∙ ap (λ (t : List ℕ). c ∷ t) (take-add n k cs) in
-    subst (λ (t : List ℕ). SpellsNumber t) (sym e) (tail_spells c (take n cs) (drop n cs) is (both _ _ is (front_digits cs)))
+digits-unsigned : (cs : List ℕ) → list_all is_ascii_digit cs ≡ true → is_negative cs ≡ false
+digits-unsigned [] all = refl
+digits-unsigned (c ∷ cs) all = no_sign c (first_of _ _ all)
+
+decimal-unsigned : (whole ds : List ℕ) → list_all is_ascii_digit whole ≡ true → is_negative (whole ++ 46 ∷ ds) ≡ false
+decimal-unsigned [] ds all = refl
+decimal-unsigned (c ∷ w) ds all = no_sign c (first_of _ _ all)
+
+-- a number has no sign
+pub number-unsigned : (cs : List ℕ) → IsNumber cs → is_negative (encode_utf8_all cs) ≡ false
+number-unsigned cs (inl digits) = ap is_negative (encodes-IsAscii cs (all_ascii cs digits.1)) ∙ digits-unsigned cs digits.1
+number-unsigned cs (inr (whole, ds, is, all, some)) =
+    subst (λ (t : List ℕ). is_negative (encode_utf8_all t) ≡ false) (sym is) (ap is_negative (decimal_bytes whole ds all some) ∙ decimal-unsigned whole ds all)
+
+plain_digits : (cs : List ℕ) → list_all is_ascii_digit cs ≡ true → unsigned cs ≡ cs
+plain_digits [] all = refl
+plain_digits (c ∷ cs) all = unsigned_is c cs (no_sign c (first_of _ _ all))
+
+digits-no_decimals : (cs : List ℕ) → list_all is_ascii_digit cs ≡ true → decimals cs ≡ []
+digits-no_decimals cs all =
+    let at : position_or_len is_point cs ≡ length cs = ap (position_or_len is_point) (sym (append-nil cs)) ∙ point_behind cs [] all ∙ omega arith in
+    ap (λ (u : List ℕ). drop (position_or_len is_point u + 1) u) (plain_digits cs all) ∙ ap (λ (n : ℕ). drop (n + 1) cs) at ∙ drop_whole cs
+
+no_point_where : (b : Bool) → b ≡ true → not b ≡ true → ⊥
+no_point_where true h k = cc
+no_point_where false h k = cc
+
+-- a number without a point has no decimals
+pub number-no_decimals : (cs : List ℕ) → IsNumber cs → not (list_any is_point (encode_utf8_all cs)) ≡ true → decimals (encode_utf8_all cs) ≡ []
+number-no_decimals cs (inl digits) h = ap decimals (encodes-IsAscii cs (all_ascii cs digits.1)) ∙ digits-no_decimals cs digits.1
+number-no_decimals cs (inr (whole, ds, is, all, some)) h =
+    absurd (no_point_where _ (ap (λ (t : List ℕ). list_any is_point (encode_utf8_all t)) is ∙ ap (list_any is_point) (decimal_bytes whole ds all some) ∙ has_point whole ds) h)

@@ -52,13 +52,14 @@ operator_at c cs =
     if c == 33 then Some (bang_at cs) else if c == 61 then equal_at cs
     else if c == 60 then Some (less_at cs) else if c == 62 then Some (greater_at cs) else None
 
+-- the symbol of one character, where there is one, and else the longest of the others
+abbrev pub or_operator : Option Symbol → ℕ → List ℕ → Option (Symbol × ℕ)
+or_operator (Some s) c cs = Some (s, 1)
+or_operator None c cs = operator_at c cs
+
 -- the longest symbol that begins with a character, but for those that begin with `.` or `/`
 abbrev pub symbol_at : ℕ → List ℕ → Option (Symbol × ℕ)
-symbol_at c cs = or_operator (plain_symbol c)
-  where
-    or_operator : Option Symbol → Option (Symbol × ℕ)
-    or_operator (Some s) = Some (s, 1)
-    or_operator None = operator_at c cs
+symbol_at c cs = or_operator (plain_symbol c) c cs
 
 -- ---- comments
 

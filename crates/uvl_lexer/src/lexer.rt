@@ -6,6 +6,7 @@ ghost use Rattle.uvl_lexer.specs.declared.token.Token.{Token};
 ghost use Rattle.uvl_lexer.specs.Layout.{Tokens, Stops, after_mark, front_of};
 ghost use Rattle.uvl_lexer.specs.Positions.{IsSound};
 ghost use Rattle.uvl_lexer.specs.Reading.{OnFault};
+ghost use Rattle.uvl_lexer.specs.TokenList.{IsTokenList};
 ghost use Rattle.uvl_lexer.specs.Turns.{read_through};
 
 use crate::characters::{split_at_count, split_first};
@@ -24,6 +25,7 @@ use std::alloc::Global;
 pub fn lex(alloc: Global, text: &str) -> Result<Vec<Token>, LexFault>
     requires { length text.now ≤ 8388608 }
     ensures tokens { IfOk result (λ tokens. Tokens (chars text.now) tokens.items) }
+    ensures list { IfOk result (λ tokens. IsTokenList tokens.items) }
     ensures stops { IfErr result (λ fault. OnFault fault (λ place kind. Stops (chars text.now) place kind)) }
     ensures never_refused { (tokens : List Token) → Tokens (chars text.now) tokens → IfErr result (λ fault. fault ≡ LexFault.OutOfMemory) }
     ensures never_read { (place : Place) (kind : FaultKind) → Stops (chars text.now) place kind → IsErr result }

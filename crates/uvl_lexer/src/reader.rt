@@ -1,18 +1,19 @@
 //! The reader of a text: the tokens so far, and what the next ones depend on.
-ghost use Rattle.std.specs.Prelude.{◌≡◌, ◌+◌, ◌≤◌, [], ◌∷◌, ◌++◌, ◌&&◌, not, true, false, IfErr, OnOk, None, IsTrue, length, chars};
+ghost use Rattle.std.specs.Prelude.{◌≡◌, ◌+◌, ◌≤◌, [], ◌∷◌, ◌++◌, ◌&&◌, not, true, false, IfErr, IfSome, OnOk, None, IsTrue, length, chars};
 ghost use Rattle.uvl_base.specs.Number.{is_number};
 ghost use Rattle.uvl_lexer.specs.Cut.{Cut, Begins, cut, comment_onto, comment_piece, piece_onto};
+ghost use Rattle.uvl_lexer.specs.Forms.{HasForm, HasTokenForm};
 ghost use Rattle.uvl_lexer.specs.Layout as spec;
 ghost use Rattle.uvl_lexer.specs.Layout.{is_break, ends_line_at};
 ghost use Rattle.uvl_lexer.specs.Levels.{kept_by};
 ghost use Rattle.uvl_lexer.specs.Pieces.{piece_at};
 ghost use Rattle.uvl_lexer.specs.Positions.{place_of, IsSound};
-ghost use Rattle.uvl_lexer.specs.Reading.{read_on, OnFault, IsRefused};
-ghost use Rattle.uvl_lexer.specs.Spellings.{IsSpelling, IsPiece, IsBlank};
+ghost use Rattle.uvl_lexer.specs.Reading.{read_on, OnFault, IsRefused, comment_piece_at};
+ghost use Rattle.uvl_lexer.specs.Spellings.{IsBlank};
 ghost use Rattle.uvl_lexer.specs.Turns.{may_begin, marks_before, levels_after, newline_at};
 
 use crate::brackets::{Brackets, Role, role_of};
-use crate::characters::{begins_with, split_at_count, split_first};
+use crate::characters::{CharacterClass, begins_with, count_while, split_at_count, split_first};
 use crate::fault::LexFault;
 use crate::levels::Levels;
 use crate::piece::{Lexeme, PieceKind};
@@ -159,7 +160,7 @@ impl Reader {
 
     /// Why a token is refused where it stands.
     fn refusal_of(&self, lexeme: Lexeme, spelling: &str) -> Option<FaultKind>
-        requires { IsSpelling lexeme (chars spelling.now) }
+        requires { HasTokenForm lexeme (chars spelling.now) }
         ensures { result ≡ spec.refusal_of lexeme (chars spelling.now) self.now.brackets }
     {
         match lexeme {
@@ -210,7 +211,7 @@ impl Reader {
         after: Position,
     ) -> Result<(), LexFault>
         requires count { count ≡ length (chars spelling.now) }
-        requires spelled { IsSpelling lexeme (chars spelling.now) }
+        requires spelled { HasTokenForm lexeme (chars spelling.now) }
         ensures stands { OnOk result ((may_begin self.old.begun self.old.levels self.old.position ≡ true) × (spec.refusal_of lexeme (chars spelling.now) self.old.brackets ≡ None)) }
         ensures tokens { OnOk result (self.new.tokens.items ≡ self.old.tokens.items ++ (marks_before self.old.begun self.old.levels self.old.position ++ spec.token_at (spec.token_of lexeme (chars spelling.now)) self.old.position after ∷ [])) }
         ensures levels { OnOk result (self.new.levels ≡ levels_after self.old.begun self.old.levels self.old.position) }
@@ -245,7 +246,7 @@ impl Reader {
         requires room { self.old.position.byte + length spelling.now ≤ 8388608 }
         requires count { count ≡ length (chars spelling.now) }
         requires some { 1 ≤ count }
-        requires spelled { IsSpelling lexeme (chars spelling.now) }
+        requires spelled { HasTokenForm lexeme (chars spelling.now) }
         ensures read { OnOk result ((rest : Cut) → read_on self.old (Begins (PieceKind.Lexeme lexeme) (chars spelling.now) rest) ≡ read_on self.new rest) }
         ensures refused { IfErr result (λ fault. OnFault fault (λ place why. (rest : Cut) → read_on self.old (Begins (PieceKind.Lexeme lexeme) (chars spelling.now) rest) ≡ Err (place, why))) }
         ensures sound { OnOk result (IsSound self.new.position) }
@@ -289,8 +290,7 @@ impl Reader {
         ensures byte { OnOk result (self.new.position.byte ≡ self.old.position.byte + length comment.now) }
     {
         let mut rest = comment;
-        while let Some(parts) = split_first(rest) {
-            let piece = comment_piece(parts.0, parts.1);
+        while let Some(piece) = comment_piece_at(rest) {
             let (front, after) = split_at_count(rest, piece.1);
             self.take_blank(piece.0, piece.1, front)?;
             rest = after;
@@ -310,7 +310,7 @@ impl Reader {
         requires room { self.old.position.byte + length spelling.now ≤ 8388608 }
         requires count { count ≡ length (chars spelling.now) }
         requires some { 1 ≤ count }
-        requires spelled { IsPiece kind (chars spelling.now) }
+        requires spelled { HasForm kind (chars spelling.now) }
         ensures read { OnOk result ((rest : Cut) → read_on self.old (piece_onto kind (chars spelling.now) rest) ≡ read_on self.new rest) }
         ensures refused { IfErr result (λ fault. OnFault fault (λ place why. (rest : Cut) → read_on self.old (piece_onto kind (chars spelling.now) rest) ≡ Err (place, why))) }
         ensures sound { OnOk result (IsSound self.new.position) }
@@ -373,6 +373,24 @@ fn fault_at(first: char, rest: &str) -> FaultKind
         }
         '\'' | '/' => FaultKind::Unclosed,
         _ => FaultKind::BadCharacter,
+    }
+}
+
+/// How the front of a comment is counted: as many spaces as there are characters in front of an LF
+/// or a CR, or that one.
+fn comment_piece_at(text: &str) -> Option<(PieceKind, usize)>
+    ensures piece { result ≡ comment_piece_at (chars text.now) }
+    ensures within { IfSome result (λ piece. (1 ≤ piece.1) × (piece.1 ≤ length (chars text.now))) }
+    ensures blank { IfSome result (λ piece. IsBlank piece.0) }
+{
+    let Some(parts) = split_first(text) else {
+        return None;
+    };
+    let spaces = count_while(text, CharacterClass::InLine);
+    if spaces == 0 {
+        Some(comment_piece(parts.0, parts.1))
+    } else {
+        Some((PieceKind::Space, spaces))
     }
 }
 

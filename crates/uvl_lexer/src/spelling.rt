@@ -3,10 +3,11 @@ ghost use Rattle.std.specs.Prelude.{◌≡◌, ◌&&◌, ◌≤◌, true, IfErr,
 ghost use Rattle.std.specs.List.{list_any};
 ghost use Rattle.uvl_base.specs.Name.{is_name};
 ghost use Rattle.uvl_base.specs.Number.{is_number, is_too_wide, is_point, millionths_of};
+ghost use Rattle.uvl_lexer.specs.Forms.{HasTokenForm};
 ghost use Rattle.uvl_lexer.specs.Words.{word_of};
 ghost use Rattle.uvl_lexer.specs.declared.token.TokenKind.TheVariants as token;
 ghost use Rattle.uvl_lexer.specs.Layout as spec;
-ghost use Rattle.uvl_lexer.specs.Spellings.{IsSpelling, IsReadable};
+ghost use Rattle.uvl_lexer.specs.Spellings.{IsReadable};
 
 use crate::characters::split_at_count;
 use crate::fault::LexFault;
@@ -36,7 +37,7 @@ pub(crate) fn token_of(
     count: usize,
 ) -> Result<TokenKind, LexFault>
     requires count { count ≡ length (chars spelling.now) }
-    requires spelled { IsSpelling lexeme (chars spelling.now) }
+    requires spelled { HasTokenForm lexeme (chars spelling.now) }
     requires readable { IsReadable lexeme (chars spelling.now) }
     ensures token { IfOk result (λ token. token ≡ spec.token_of lexeme (chars spelling.now)) }
     ensures memory { IfErr result (λ fault. fault ≡ LexFault.OutOfMemory) }

@@ -44,6 +44,10 @@ fn a_text_is_cut_into_the_longest_tokens_with_layout_marks(rt: HostRuntime) -> R
         ("a // b\r\n/* c\n\t*/ d 'e'", "n;>nt;<."),
         ("a <=> b => !c /* or */ <= d", "nsnssnsn;."),
         ("größe#%? == 'x//y'", "nst;."),
+        ("/* a /* b */ c */ \"/*\" // d\re", ">nssn;<."),
+        ("a\n  \tb\n\tc\n        d\n", "n;>n;n;n;<."),
+        ("(a\n[\n\tb]\n  c)\nd\n", "snsnsns;n;."),
+        ("/* a */ b\n// c\n\n\t/*\n*/\n", ">n;<."),
     ];
     for (text, signs) in rows {
         assert!(rt; text.len() <= 8_388_608);
@@ -78,6 +82,24 @@ fn a_text_stops_at_the_first_place_that_cannot_be_read(rt: HostRuntime) {
         ("a \"\"", 1, 3, FaultKind::BadCharacter),
         ("a\rb", 1, 2, FaultKind::BadCharacter),
         ("größe (]", 1, 8, FaultKind::Unclosed),
+        ("features\n\tA\n\t\t[2..3}\n", 3, 8, FaultKind::Unclosed),
+        (
+            "features\n\tA\n\t\t[0..1000000000000]\n",
+            3,
+            7,
+            FaultKind::NumberTooWide,
+        ),
+        ("features\n\tA {p 'x\n", 2, 7, FaultKind::Unclosed),
+        ("/* note\nfeatures\n", 1, 1, FaultKind::Unclosed),
+        (
+            "features\n\tA\nconstraints\n\tA = A\n",
+            4,
+            4,
+            FaultKind::BadCharacter,
+        ),
+        ("\u{feff}a\u{feff}", 1, 2, FaultKind::BadCharacter),
+        ("a .1234567", 1, 3, FaultKind::NumberTooWide),
+        ("a /* b\n*/ \t\"", 2, 5, FaultKind::Unclosed),
     ];
     for (text, line, column, kind) in rows {
         assert!(rt; text.len() <= 8_388_608);
@@ -90,4 +112,18 @@ fn a_text_stops_at_the_first_place_that_cannot_be_read(rt: HostRuntime) {
             _ => assert!(rt; false, "{text:?} is read"),
         }
     }
+}
+
+#[test]
+fn a_name_is_the_same_in_quotes_and_without(rt: HostRuntime) -> Result<(), Fail> {
+    let tokens = lex(rt.alloc(), "\"größe\" größe")?;
+    let mut names = 0u8;
+    for token in tokens.iter() {
+        if let TokenKind::Name { name, .. } = &token.kind {
+            assert_eq!(rt; name.text(), "größe");
+            names = names.saturating_add(1);
+        }
+    }
+    assert_eq!(rt; names, 2);
+    Ok(())
 }

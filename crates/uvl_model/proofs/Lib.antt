@@ -4,6 +4,7 @@ pub mod Limits
 pub mod Marks
 pub mod Membership
 pub mod NameKeys
+pub mod NoProduct
 pub mod Places
 pub mod ThinModel
 pub mod TreeNames

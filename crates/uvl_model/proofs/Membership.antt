@@ -60,7 +60,7 @@ all_have-from_members names (x ∷ xs) each =
     and_from _ _ (each x (or_left _ _ (bytes_eq-same x))) (all_have-from_members names xs (λ y h. each y (or_right (bytes_eq y x) _ h)))
 
 -- and then each member is
-member_of_all : (names set : List (List ℕ)) → list_all (has names) set ≡ true → (x : List ℕ) → has set x ≡ true → has names x ≡ true
+pub member_of_all : (names set : List (List ℕ)) → list_all (has names) set ≡ true → (x : List ℕ) → has set x ≡ true → has names x ≡ true
 member_of_all names [] all x h = absurd (false≢true h)
 member_of_all names (y ∷ ys) all x h =
     let parts = and_parts (has names y) (list_all (has names) ys) all in

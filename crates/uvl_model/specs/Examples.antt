@@ -1,9 +1,10 @@
 -- Small trees, on which the definitions are checked.
-use Rattle.std.specs.Prelude.{ℕ, List, [], ◌∷◌, ◌++◌, None, map, filter, codes}
+use Rattle.std.specs.Prelude.{ℕ, List, [], ◌∷◌, None, filter, codes}
 use Rattle.uvl_model.specs.Product.{is_product}
 use Rattle.uvl_model.specs.Rows.{Rows}
 use Rattle.uvl_model.specs.Spelling.{feature_rows, group_rows}
 use Rattle.uvl_model.specs.Tree.{Tree, Members, feature, no_groups, group, no_members, member, names_of}
+use Rattle.uvl_model.specs.Void.{sublists_of}
 
 -- members without groups
 abbrev pub leaves : List (List ℕ) → Members
@@ -28,11 +29,10 @@ unfittable =
     feature (codes "R")
     (group 0 1 (member (feature (codes "P") (group 4 3 (leaves (codes "A" ∷ codes "B" ∷ codes "C" ∷ [])) no_groups)) no_members) no_groups)
 
--- all sets of the names
-abbrev pub sets_of : List (List ℕ) → List (List (List ℕ))
-sets_of [] = [] ∷ []
-sets_of (name ∷ names) = map (λ set. name ∷ set) (sets_of names) ++ sets_of names
+-- the same group below the root, so that no set has the root and fits
+abbrev pub void_tree : Tree
+void_tree = feature (codes "R") (group 4 3 (leaves (codes "A" ∷ codes "B" ∷ codes "C" ∷ [])) no_groups)
 
--- the products among the sets of a tree's names
+-- the products among the sublists of a tree's names
 abbrev pub products_of : Tree → List (List (List ℕ))
-products_of tree = filter (is_product tree) (sets_of (names_of tree))
+products_of tree = filter (is_product tree) (sublists_of (names_of tree))

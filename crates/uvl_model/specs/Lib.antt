@@ -8,3 +8,4 @@ pub mod Rows
 pub mod Sound
 pub mod Spelling
 pub mod Tree
+pub mod Void

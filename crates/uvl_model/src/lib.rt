@@ -8,7 +8,10 @@ mod model;
 mod names;
 mod rows;
 
-pub use laws::{products_are_sets, rows_check_products, rows_give_names, rows_give_products};
+pub use laws::{
+    marks_give_products, products_are_sets, rows_check_products, rows_give_names,
+    rows_give_products, void_trees_have_no_product,
+};
 pub use model::Model;
 pub use names::NameIndex;
 pub use rows::{FeatureNo, FeatureRow, GroupRow};

@@ -1,4 +1,14 @@
 pub mod TokenKinds
+pub mod Fronts
+pub mod Sorts
+pub mod Levels
+pub mod Scanned
+pub mod Naming
+pub mod Walking
+pub mod Inline
+pub mod Depths
+pub mod Sectioned
+pub mod Shallow
 pub mod Readers
 pub mod Completing
 pub mod Opened

@@ -12,3 +12,7 @@ pub mod Groups
 pub mod Features
 pub mod Sections
 pub mod File
+pub mod Dead
+pub mod Named
+pub mod Parsing
+pub mod Law

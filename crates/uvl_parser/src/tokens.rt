@@ -9,7 +9,7 @@ use uvl_base::{Name, Place};
 use uvl_lexer::{Symbol, Token, TokenKind, Word};
 
 /// Whether a token is this reserved word.
-fn is_word(kind: &TokenKind, word: Word) -> bool
+pub(crate) fn is_word(kind: &TokenKind, word: Word) -> bool
     ensures { result ≡ is_word word kind.now }
 {
     match kind {
@@ -19,7 +19,7 @@ fn is_word(kind: &TokenKind, word: Word) -> bool
 }
 
 /// Whether a token is this symbol.
-fn is_symbol(kind: &TokenKind, symbol: Symbol) -> bool
+pub(crate) fn is_symbol(kind: &TokenKind, symbol: Symbol) -> bool
     ensures { result ≡ is_symbol symbol kind.now }
 {
     match kind {

@@ -3,8 +3,8 @@ use Rattle.std.proofs.Common.{◌≡◌, ℕ, true, false, ◌==◌, cond, List,
 use Rattle.std.proofs.lemmas.Bool.{or_parts, or_from, eqb-true, cond-true, cond-false, cases_Bool}
 use Rattle.std.proofs.lemmas.List.Concat.{flat_map-append}
 use Rattle.uvl_model.specs.Tree.{Tree}
-use Rattle.uvl_run.specs.Lines.{without_cr, ended_lines_from, open_line_from, ended_lines, open_line, has_lf, joined, AreLines, IsCut}
-use Rattle.uvl_run.specs.Replies.{answer_to, bytes_for, replies_to}
+use Rattle.uvl_run.specs.Lines.{ended_lines_from, open_line_from, ended_lines, open_line, has_lf, joined, AreLines, IsCut}
+use Rattle.uvl_run.specs.Replies.{reply_to, replies_to}
 
 -- the lines that end within two pieces are those of the first, and then those of the second behind its open line
 pub ended_lines_from-append : (begun xs ys : List ℕ) → ended_lines_from begun (xs ++ ys) ≡ ended_lines_from begun xs ++ ended_lines_from (open_line_from begun xs) ys
@@ -57,10 +57,6 @@ open_line_from-none begun (b ∷ bs) h =
     let parts = or_parts (b == 10) (has_lf bs) h in
     at_other-open b bs begun parts.0 ∙ open_line_from-none (begun ++ b ∷ []) bs parts.1 ∙ one_more begun b bs
 
--- and so the open line of bytes is what has begun, and then the bytes behind the last LF
-pub open_line_from-rest : (begun rest next line : List ℕ) → has_lf rest ≡ false → next ≡ begun ++ rest → open_line_from begun rest ≡ line → next ≡ line
-open_line_from-rest begun rest next line h kept is_line = kept ∙ sym (open_line_from-none begun rest h) ∙ is_line
-
 -- an LF ends the line that has begun
 pub ended_lines_from-line : (begun line rest : List ℕ) → has_lf line ≡ false → ended_lines_from begun (line ++ 10 ∷ rest) ≡ (begun ++ line) ∷ ended_lines_from [] rest
 ended_lines_from-line begun line rest h =
@@ -74,7 +70,7 @@ open_line_from-line begun line rest h = open_line_from-append begun line (10 ∷
 
 -- the replies to lines come one after another
 pub replies_to-append : (tree : Tree) (xs ys : List (List ℕ)) → replies_to tree (xs ++ ys) ≡ replies_to tree xs ++ replies_to tree ys
-replies_to-append tree xs ys = flat_map-append (λ line. bytes_for (answer_to tree (without_cr line))) xs ys
+replies_to-append tree xs ys = flat_map-append (reply_to tree) xs ys
 
 has_lf-append : (xs ys : List ℕ) → has_lf xs ≡ false → has_lf ys ≡ false → has_lf (xs ++ ys) ≡ false
 has_lf-append [] ys hx hy = hy

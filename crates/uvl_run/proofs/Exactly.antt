@@ -1,26 +1,30 @@
 -- The causes of the statuses exclude one another.
 use Rattle.std.proofs.Common.{◌≡◌, ℕ, ◌<◌, ◌≤◌, Bool, false, ltb, List, [], ◌∷◌, length, Option, Some, None, MatchBool, IfSome, inl, inr, refl, sym, ap, ◌∙◌, subst, arith, length-append}
 use Rattle.std.proofs.lemmas.Bool.Decides.{nat_tests}
+use Rattle.std.proofs.lemmas.Option.{same_Some}
 use Rattle.std.specs.Io.KnownBytes.{Consumes}
 use Rattle.uvl_outside.specs.Files.{Contents}
 use Rattle.uvl_base.specs.declared.fault.FaultKind.{FaultKind}
 use Rattle.uvl_base.specs.declared.fault.FaultKind.TheVariants.{TooLong, NotBuilt}
 use Rattle.uvl_model.specs.Tree.{Tree}
 use Rattle.uvl_run.specs.declared.status.Status.{Status}
-use Rattle.uvl_run.specs.declared.status.Status.TheVariants.{Done, Usage, Model, ReadFault, WriteFault, NoMemory, TooMuchInput}
-use Rattle.uvl_run.specs.CommandLine.{model_path}
-use Rattle.uvl_run.specs.Loading.{IsModelOf, HasFault, LoadsFault, Tells, IsNoThinFile, most_file_bytes}
-use Rattle.uvl_run.specs.Run.{IsRefused, IsAccepted, IsFaulty, EndsRun, Answers}
+use Rattle.uvl_run.specs.declared.status.Status.TheVariants.{Done, Usage, Model, ReadFault, WriteFault, OverBudget, NoMemory, TooMuchInput}
+use Rattle.uvl_run.specs.Budget.{nodes_for}
+use Rattle.uvl_run.specs.CommandLine.{Request, request_of}
+use Rattle.uvl_run.specs.Loading.{IsModelOf, HasFault, LoadsModel, LoadsFault, Tells, IsNoThinFile, most_file_bytes}
+use Rattle.uvl_run.specs.Run.{IsRefused, IsAccepted, IsOverBudget, IsFaulty, EndsRun, Answers}
+use Rattle.uvl_run.specs.ThinFile.{IsThinFile}
 use Rattle.uvl_run.specs.Script.{most_script_bytes, TakesAll}
-use Rattle.uvl_run.specs.Exactly.{IsOneOf, HasModel, HasFaultyModel, IsExact}
+use Rattle.uvl_run.specs.Exactly.{IsOneOf, HasModel, HasModelOverBudget, HasFaultyModel, IsExact}
+use Rattle.uvl_run.proofs.OneTree.{one_tree}
 
--- words that are refused name no path
-no_path : (words : List (List ℕ)) (path : List ℕ) → IsRefused words → model_path words ≡ Some path → ⊥
-no_path words path refused named = let both : None ≡ Some path = sym refused ∙ named in cc
+-- words that are refused ask for nothing
+no_request : (words : List (List ℕ)) (asked : Request) → IsRefused words → request_of words ≡ Some asked → ⊥
+no_request words asked refused named = let both : None ≡ Some asked = sym refused ∙ named in cc
 
--- words name one path
-one_path : (words : List (List ℕ)) (p q : List ℕ) → model_path words ≡ Some p → model_path words ≡ Some q → p ≡ q
-one_path words p q first second = let both : Some p ≡ Some q = sym first ∙ second in cc
+-- words ask for one thing
+one_request : (words : List (List ℕ)) (p q : Request) → request_of words ≡ Some p → request_of words ≡ Some q → p ≡ q
+one_request words p q first second = same_Some p q (sym first ∙ second)
 
 within : (bytes : List ℕ) → length bytes ≤ most_file_bytes → ltb most_file_bytes (length bytes) ≡ false
 within bytes short = grind (arith, nat_tests)
@@ -32,31 +36,63 @@ no_fault content tree kind model fault =
     let Q : Bool → Type 0 = λ b. MatchBool b (kind ≡ TooLong) ((kind ≡ NotBuilt) × IsNoThinFile model.bytes) in
     (subst Q (within model.bytes model.within) (subst P model.there fault)).1 tree model.thin
 
--- what is told at the path of an accepted model is the model of its tree
-told_model : (words : List (List ℕ)) (told : Option Contents) (contents : Contents) (path : List ℕ) (tree : Tree) → told ≡ Some contents → model_path words ≡ Some path → IsAccepted words told tree → IsModelOf (contents path) tree
-told_model words told contents path tree tells named accepted =
-    let content = accepted.loads.0 in
-    let P : Option Contents → Type 0 = λ t. Tells t accepted.path content in
+-- what is told at the path of a loaded model is the model of its tree
+told_model : (words : List (List ℕ)) (told : Option Contents) (contents : Contents) (asked request : Request) (tree : Tree) → told ≡ Some contents → request_of words ≡ Some request
+    → request_of words ≡ Some asked → LoadsModel told asked.path tree → IsModelOf (contents request.path) tree
+told_model words told contents asked request tree tells named named' loads =
+    let content = loads.0 in
+    let P : Option Contents → Type 0 = λ t. Tells t asked.path content in
     let Q : Option (List ℕ) → Type 0 = λ o. IsModelOf o tree in
-    let same = ap contents (one_path words accepted.path path accepted.named named) in
-    subst Q (sym (subst P tells accepted.loads.1) ∙ same) accepted.loads.2
+    let same = ap (λ (r : Request). contents r.path) (one_request words asked request named' named) in
+    subst Q (sym (subst P tells loads.1) ∙ same) loads.2
 
 -- a fault that is told at the path is that of what is there
-told_fault : (words : List (List ℕ)) (told : Option Contents) (contents : Contents) (path q : List ℕ) (kind : FaultKind) → told ≡ Some contents → model_path words ≡ Some path → IsFaulty words told q kind → HasFault (contents path) kind
-told_fault words told contents path q kind tells named faulty =
-    let P : Option Contents → Type 0 = λ t. LoadsFault t q kind in
-    let Q : List ℕ → Type 0 = λ p. HasFault (contents p) kind in
-    subst Q (one_path words q path faulty.named named) (subst P tells faulty.faulty)
+told_fault : (words : List (List ℕ)) (told : Option Contents) (contents : Contents) (request asked : Request) (kind : FaultKind) → told ≡ Some contents → request_of words ≡ Some request → IsFaulty words told asked kind → HasFault (contents request.path) kind
+told_fault words told contents request asked kind tells named faulty =
+    let P : Option Contents → Type 0 = λ t. LoadsFault t asked.path kind in
+    let Q : Request → Type 0 = λ r. HasFault (contents r.path) kind in
+    subst Q (one_request words asked request faulty.named named) (subst P tells faulty.faulty)
 
--- an accepted model has no fault
-not_faulty : (words : List (List ℕ)) (told : Option Contents) (tree : Tree) → IsAccepted words told tree → HasFaultyModel words told → ⊥
-not_faulty words told tree accepted faulty =
-    no_fault (faulty.contents faulty.path) tree faulty.kind (told_model words told faulty.contents faulty.path tree faulty.tells faulty.named accepted) faulty.is
+-- a loaded model has no fault
+not_faulty : (words : List (List ℕ)) (told : Option Contents) (asked : Request) (tree : Tree) → request_of words ≡ Some asked → LoadsModel told asked.path tree → HasFaultyModel words told → ⊥
+not_faulty words told asked tree named loads faulty =
+    no_fault (faulty.contents faulty.request.path) tree faulty.kind (told_model words told faulty.contents asked faulty.request tree faulty.tells faulty.named named loads) faulty.is
 
 -- a model that is told to be one is not faulty
-not_modelled : (words : List (List ℕ)) (told : Option Contents) (q : List ℕ) (kind : FaultKind) → IsFaulty words told q kind → HasModel words told → ⊥
-not_modelled words told q kind faulty model =
-    no_fault (model.contents model.path) model.tree kind model.is (told_fault words told model.contents model.path q kind model.tells model.named faulty)
+not_modelled : (words : List (List ℕ)) (told : Option Contents) (contents : Contents) (request asked : Request) (tree : Tree) (kind : FaultKind) → told ≡ Some contents → request_of words ≡ Some request
+    → IsModelOf (contents request.path) tree → IsFaulty words told asked kind → ⊥
+not_modelled words told contents request asked tree kind tells named is faulty =
+    no_fault (contents request.path) tree kind is (told_fault words told contents request asked kind tells named faulty)
+
+-- what is at a path is the model of one tree
+same_tree : (content : Option (List ℕ)) (a b : Tree) → IsModelOf content a → IsModelOf content b → a ≡ b
+same_tree content a b first second =
+    let P : List ℕ → Type 0 = λ bytes. IsThinFile bytes a in
+    one_tree second.bytes a b (subst P (same_Some first.bytes second.bytes (sym first.there ∙ second.there)) first.thin) second.thin
+
+-- A loaded model wants as many nodes as the one that is told, and has the same budget.
+same_need : (words : List (List ℕ)) (told : Option Contents) (contents : Contents) (asked request : Request) (a b : Tree) → told ≡ Some contents → request_of words ≡ Some request
+    → request_of words ≡ Some asked → LoadsModel told asked.path a → IsModelOf (contents request.path) b → (nodes_for a ≡ nodes_for b) × (asked.budget ≡ request.budget)
+same_need words told contents asked request a b tells named named' loads is = (
+  ap nodes_for (same_tree (contents request.path) a b (told_model words told contents asked request a tells named named' loads) is),
+  ap (λ (r : Request). r.budget) (one_request words asked request named' named),
+)
+
+-- the budget of an accepted model isn't too small
+not_short : (words : List (List ℕ)) (told : Option Contents) (tree : Tree) → IsAccepted words told tree → HasModelOverBudget words told → ⊥
+not_short words told tree accepted model =
+    let same = same_need words told model.contents accepted.request model.request tree model.tree model.tells model.named accepted.named accepted.loads model.is in
+    let enough = accepted.enough in
+    let short = model.short in
+    absurd (omega (arith, same.0, same.1))
+
+-- a budget that suffices isn't too small
+not_over : (words : List (List ℕ)) (told : Option Contents) (tree : Tree) → IsOverBudget words told tree → HasModel words told → ⊥
+not_over words told tree over model =
+    let same = same_need words told model.contents over.request model.request tree model.tree model.tells model.named over.named over.loads model.is in
+    let short = over.short in
+    let enough = model.enough in
+    absurd (omega (arith, same.0, same.1))
 
 all_within : (input : Option (List ℕ)) (taken : List ℕ) → TakesAll input taken → length taken ≤ most_script_bytes → IfSome input (λ bytes. length bytes ≤ most_script_bytes)
 all_within None taken all short = tt
@@ -79,30 +115,45 @@ too_much_causes : (words : List (List ℕ)) (told : Option Contents) (input left
 too_much_causes words told input left taken said moved ended = ((ended.0, ended.1), beyond input left taken moved ended.2.0)
 
 usage_where : (words : List (List ℕ)) (told : Option Contents) (input : Option (List ℕ)) (taken said : List ℕ) (status : Status) → EndsRun words told input taken said status → IsRefused words → IsOneOf status (Usage ∷ WriteFault ∷ NoMemory ∷ [])
-usage_where words told input taken said Done ended refused = absurd (no_path words ended.1.path refused ended.1.named)
+usage_where words told input taken said Done ended refused = absurd (no_request words ended.1.request refused ended.1.named)
 usage_where words told input taken said Usage ended refused = inl refl
-usage_where words told input taken said Model ended refused = absurd (no_path words ended.0 refused ended.2.named)
-usage_where words told input taken said ReadFault (inl ended) refused = absurd (no_path words ended.0 refused ended.1)
-usage_where words told input taken said ReadFault (inr ended) refused = absurd (no_path words ended.1.path refused ended.1.named)
+usage_where words told input taken said Model ended refused = absurd (no_request words ended.0 refused ended.2.named)
+usage_where words told input taken said ReadFault (inl ended) refused = absurd (no_request words ended.0 refused ended.1)
+usage_where words told input taken said ReadFault (inr ended) refused = absurd (no_request words ended.1.request refused ended.1.named)
 usage_where words told input taken said WriteFault ended refused = inr (inl refl)
+usage_where words told input taken said OverBudget ended refused = absurd (no_request words ended.1.request refused ended.1.named)
 usage_where words told input taken said NoMemory ended refused = inr (inr (inl refl))
-usage_where words told input taken said TooMuchInput ended refused = absurd (no_path words ended.1.path refused ended.1.named)
+usage_where words told input taken said TooMuchInput ended refused = absurd (no_request words ended.1.request refused ended.1.named)
 
 model_where : (words : List (List ℕ)) (told : Option Contents) (input : Option (List ℕ)) (taken said : List ℕ) (status : Status) → EndsRun words told input taken said status → HasFaultyModel words told → IsOneOf status (Model ∷ ReadFault ∷ WriteFault ∷ NoMemory ∷ [])
-model_where words told input taken said Done ended faulty = absurd (not_faulty words told ended.0 ended.1 faulty)
-model_where words told input taken said Usage ended faulty = absurd (no_path words faulty.path ended.0 faulty.named)
+model_where words told input taken said Done ended faulty = absurd (not_faulty words told ended.1.request ended.0 ended.1.named ended.1.loads faulty)
+model_where words told input taken said Usage ended faulty = absurd (no_request words faulty.request ended.0 faulty.named)
 model_where words told input taken said Model ended faulty = inl refl
 model_where words told input taken said ReadFault ended faulty = inr (inl refl)
 model_where words told input taken said WriteFault ended faulty = inr (inr (inl refl))
+model_where words told input taken said OverBudget ended faulty = absurd (not_faulty words told ended.1.request ended.0 ended.1.named ended.1.loads faulty)
 model_where words told input taken said NoMemory ended faulty = inr (inr (inr (inl refl)))
-model_where words told input taken said TooMuchInput ended faulty = absurd (not_faulty words told ended.0 ended.1 faulty)
+model_where words told input taken said TooMuchInput ended faulty = absurd (not_faulty words told ended.1.request ended.0 ended.1.named ended.1.loads faulty)
+
+over_budget_where : (words : List (List ℕ)) (told : Option Contents) (input : Option (List ℕ)) (taken said : List ℕ) (status : Status) → EndsRun words told input taken said status → HasModelOverBudget words told → IsOneOf status (OverBudget ∷ ReadFault ∷ WriteFault ∷ NoMemory ∷ [])
+over_budget_where words told input taken said Done ended model = absurd (not_short words told ended.0 ended.1 model)
+over_budget_where words told input taken said Usage ended model = absurd (no_request words model.request ended.0 model.named)
+over_budget_where words told input taken said Model ended model =
+    absurd (not_modelled words told model.contents model.request ended.0 model.tree ended.1 model.tells model.named model.is ended.2)
+over_budget_where words told input taken said ReadFault ended model = inr (inl refl)
+over_budget_where words told input taken said WriteFault ended model = inr (inr (inl refl))
+over_budget_where words told input taken said OverBudget ended model = inl refl
+over_budget_where words told input taken said NoMemory ended model = inr (inr (inr (inl refl)))
+over_budget_where words told input taken said TooMuchInput ended model = absurd (not_short words told ended.0 ended.1 model)
 
 done_where : (words : List (List ℕ)) (told : Option Contents) (input left : Option (List ℕ)) (taken said : List ℕ) (status : Status) → Consumes input left taken → EndsRun words told input taken said status → HasModel words told → (bytes : List ℕ) → input ≡ Some bytes → length bytes ≤ most_script_bytes → IsOneOf status (Done ∷ ReadFault ∷ WriteFault ∷ NoMemory ∷ [])
 done_where words told input left taken said Done moved ended model bytes is short = inl refl
-done_where words told input left taken said Usage moved ended model bytes is short = absurd (no_path words model.path ended.0 model.named)
-done_where words told input left taken said Model moved ended model bytes is short = absurd (not_modelled words told ended.0 ended.1 ended.2 model)
+done_where words told input left taken said Usage moved ended model bytes is short = absurd (no_request words model.request ended.0 model.named)
+done_where words told input left taken said Model moved ended model bytes is short =
+    absurd (not_modelled words told model.contents model.request ended.0 model.tree ended.1 model.tells model.named model.is ended.2)
 done_where words told input left taken said ReadFault moved ended model bytes is short = inr (inl refl)
 done_where words told input left taken said WriteFault moved ended model bytes is short = inr (inr (inl refl))
+done_where words told input left taken said OverBudget moved ended model bytes is short = absurd (not_over words told ended.0 ended.1 model)
 done_where words told input left taken said NoMemory moved ended model bytes is short = inr (inr (inr (inl refl)))
 done_where words told input left taken said TooMuchInput moved ended model bytes is short =
     let long = told_bytes (λ b. most_script_bytes < length b) input bytes is (too_much_causes words told input left taken said moved ended).1 in
@@ -112,10 +163,12 @@ too_much_where : (words : List (List ℕ)) (told : Option Contents) (input left 
 too_much_where words told input left taken said Done moved ended model bytes is long =
     let short = told_bytes (λ b. length b ≤ most_script_bytes) input bytes is (done_causes words told input taken said ended).1 in
     absurd (omega arith)
-too_much_where words told input left taken said Usage moved ended model bytes is long = absurd (no_path words model.path ended.0 model.named)
-too_much_where words told input left taken said Model moved ended model bytes is long = absurd (not_modelled words told ended.0 ended.1 ended.2 model)
+too_much_where words told input left taken said Usage moved ended model bytes is long = absurd (no_request words model.request ended.0 model.named)
+too_much_where words told input left taken said Model moved ended model bytes is long =
+    absurd (not_modelled words told model.contents model.request ended.0 model.tree ended.1 model.tells model.named model.is ended.2)
 too_much_where words told input left taken said ReadFault moved ended model bytes is long = inr (inl refl)
 too_much_where words told input left taken said WriteFault moved ended model bytes is long = inr (inr (inl refl))
+too_much_where words told input left taken said OverBudget moved ended model bytes is long = absurd (not_over words told ended.0 ended.1 model)
 too_much_where words told input left taken said NoMemory moved ended model bytes is long = inr (inr (inr (inl refl)))
 too_much_where words told input left taken said TooMuchInput moved ended model bytes is long = inl refl
 
@@ -128,6 +181,8 @@ exactly words told input left w w' status answers =
       usage_where = usage_where words told input answers.taken answers.said status answers.ends;
       model_only = λ is. let ended = subst P is answers.ends in (ended.0, ended.1, ended.2);
       model_where = model_where words told input answers.taken answers.said status answers.ends;
+      over_budget_only = λ is. let ended = subst P is answers.ends in (ended.0, ended.1);
+      over_budget_where = over_budget_where words told input answers.taken answers.said status answers.ends;
       done_only = λ is. done_causes words told input answers.taken answers.said (subst P is answers.ends);
       done_where = done_where words told input left answers.taken answers.said status answers.moved answers.ends;
       too_much_only = λ is. too_much_causes words told input left answers.taken answers.said answers.moved (subst P is answers.ends);

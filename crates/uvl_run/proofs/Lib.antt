@@ -1,12 +1,13 @@
+pub mod CommandLine
+pub mod Compiling
 pub mod Cutting
 pub mod Exactly
 pub mod FirstLine
-pub mod FirstWord
 pub mod InMemory
+pub mod Kept
 pub mod Loads
 pub mod Marking
 pub mod OneTree
-pub mod PlainWords
 pub mod Progress
 pub mod Runs
 pub mod SoFar

@@ -1,27 +1,17 @@
 -- A mark for each named feature stands for the list of the names.
-use Rattle.std.proofs.Common.{◌≡◌, ◌↔◌, ◌<◌, ℕ, ◌||◌, Bool, true, false, cond, List, [], ◌∷◌, ◌++◌, length, set, replicate, Some, refl, sym, ap, ◌∙◌, append-nil, append_assoc, inl, inr}
-use Rattle.std.specs.List.{slice_get}
+use Rattle.std.proofs.Common.{◌≡◌, ◌↔◌, ◌<◌, ◌+◌, ℕ, ◌||◌, Bool, true, false, List, [], ◌∷◌, ◌++◌, length, take, get_or, set, replicate, Some, refl, sym, ap, ◌∙◌, subst, inl, inr}
+use Rattle.std.specs.List.{slice_get, list_all}
 use Rattle.std.specs.Str.{bytes_eq}
-use Rattle.std.proofs.lemmas.Bool.{and_from, or_from, or_left, or_right, cases_eq, cases_lt, cond-true, false_from_ne_true}
-use Rattle.std.proofs.lemmas.List.{length-replicate, get_or-replicate, get_or-set_same, get_or-set_other, get_or_past}
-use Rattle.std.proofs.lemmas.List.Folds.{list_any-append, list_all-append}
+use Rattle.std.proofs.lemmas.Bool.{and_from, or_from, or_left, or_right, cases_eq, cases_lt, false_from_ne_true}
+use Rattle.std.proofs.lemmas.List.{length-replicate, take_more, get_or-replicate, get_or-set_same, get_or-set_other, get_or_past}
+use Rattle.std.proofs.lemmas.List.Folds.{list_any-append, list_all-append, list_all_at}
 use Rattle.std.proofs.lemmas.Option.{same_Some, unwrap_or-slice_get}
 use Rattle.std.proofs.lemmas.Slice.Eq.{bytes_eq-Decides}
 use Rattle.uvl_model.specs.declared.rows.FeatureNo.{FeatureNo}
 use Rattle.uvl_model.specs.Check.{is_marked}
 use Rattle.uvl_model.specs.Marks.{StandFor}
-use Rattle.uvl_model.specs.Product.{has, is_product}
-use Rattle.uvl_model.specs.Rows.{Rows}
-use Rattle.uvl_model.specs.Spelling.{Spells, numbered}
-use Rattle.uvl_model.specs.Tree.{Tree, names_of}
-use Rattle.uvl_run.specs.declared.reply.Reply.TheVariants.{Yes, No}
-use Rattle.uvl_run.specs.Replies.{answer_to_valid}
-
--- the marks stand for the words in front of those that are left
-pub record AreMarked (rows : Rows) (marks : List Bool) (words left : List (List ℕ)) : Type 0 where
-  pub front : List (List ℕ)
-  pub whole : words ≡ front ++ left
-  pub stand : (tree : Tree) → Spells tree rows → StandFor (names_of tree) marks front
+use Rattle.uvl_model.specs.Product.{has}
+use Rattle.uvl_model.specs.Spelling.{numbered}
 
 none_marked : (n k : ℕ) → is_marked (replicate n false) (numbered k) ≡ false
 none_marked n k =
@@ -76,23 +66,14 @@ stand-more names marks front word f within known place stand = record {
         ∙ marked_here marks f.0 within
         ∙ sym (has-last front word name ∙ or_right (has front name) _ (or_left _ _ ((bytes_eq-Decides name word).1 same)))
 
--- a word that names a feature goes to the marked ones
-pub AreMarked-word : (rows : Rows) (marks : List Bool) (words : List (List ℕ)) (word : List ℕ) (left next : List (List ℕ)) (f : FeatureNo) → left ≡ word ∷ next → f.0 < length marks
-    → ((tree : Tree) → Spells tree rows → true ≡ has (names_of tree) word)
-    → ((tree : Tree) → Spells tree rows → (n : ℕ) → (Some f ≡ Some (numbered n)) ↔ (slice_get (names_of tree) n ≡ Some word))
-    → AreMarked rows marks words left → AreMarked rows (set marks f.0 true) words next
-AreMarked-word rows marks words word left next f steps within known place before = record {
-  front = before.front ++ word ∷ [];
-  whole = before.whole ∙ ap (λ (words : List (List ℕ)). before.front ++ words) steps ∙ sym (append_assoc before.front (word ∷ []) next);
-  stand = λ tree spelled. stand-more (names_of tree) marks before.front word f within (sym (known tree spelled)) (place tree spelled) (before.stand tree spelled);
-}
+-- the next of some words goes to those that the marks stand for
+pub stand-next : (names : List (List ℕ)) (marks : List Bool) (words : List (List ℕ)) (i : ℕ) (word : List ℕ) (f : FeatureNo) → i < length words → word ≡ get_or words i word → f.0 < length marks → true ≡ has names word
+    → ((n : ℕ) → (Some f ≡ Some (numbered n)) ↔ (slice_get names n ≡ Some word)) → StandFor names marks (take i words) → StandFor names (set marks f.0 true) (take (i + 1) words)
+stand-next names marks words i word f inside here within known place stand =
+    let next : take i words ++ word ∷ [] ≡ take (i + 1) words = ap (λ (w : List ℕ). take i words ++ w ∷ []) here ∙ sym (take_more words i word inside) in
+    let P : List (List ℕ) → Type 0 = λ set'. StandFor names (set marks f.0 true) set' in
+    subst P next (stand-more names marks (take i words) word f within (sym known) place stand)
 
--- where no word is left, the marks tell the answer
-pub answer_to_valid-marked : (rows : Rows) (marks : List Bool) (words left : List (List ℕ)) → left ≡ [] → AreMarked rows marks words left → (product : Bool)
-    → ((tree : Tree) (names : List (List ℕ)) → Spells tree rows → StandFor (names_of tree) marks names → product ≡ is_product tree names)
-    → (tree : Tree) → Spells tree rows → answer_to_valid tree words ≡ cond product Yes No
-answer_to_valid-marked rows marks words left none marked product each tree spelled =
-    let stand = marked.stand tree spelled in
-    ap (answer_to_valid tree) (marked.whole ∙ ap (λ (last : List (List ℕ)). marked.front ++ last) none ∙ append-nil marked.front)
-    ∙ cond-true _ _ _ stand.named
-    ∙ ap (λ b. cond b Yes No) (sym (each tree marked.front spelled stand))
+-- where one of the words is no name, not all are
+pub some_unknown : (names words : List (List ℕ)) (i : ℕ) (word : List ℕ) → i < length words → word ≡ get_or words i word → false ≡ has names word → false ≡ list_all (has names) words
+some_unknown names words i word inside here unknown = sym (list_all_at (has names) words i word inside (ap (has names) (sym here) ∙ sym unknown))

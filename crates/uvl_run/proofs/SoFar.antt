@@ -9,19 +9,20 @@ use Rattle.uvl_model.specs.Rows.{Rows}
 use Rattle.uvl_model.specs.Spelling.{Spells}
 use Rattle.uvl_run.specs.declared.status.Status.{Status}
 use Rattle.uvl_run.specs.declared.status.Status.TheVariants.{Done, ReadFault, WriteFault, NoMemory, TooMuchInput}
-use Rattle.uvl_run.specs.Lines.{ended_lines, ended_lines_from, open_line, open_line_from, script_lines, last_line}
+use Rattle.uvl_run.specs.Lines.{ended_lines, ended_lines_from, open_line, open_line_from, script_lines, last_line, kept}
 use Rattle.uvl_run.specs.Replies.{replies_to}
 use Rattle.uvl_run.specs.Script.{most_script_bytes, TakesAll, IsFrontOfReplies, AnswersScript, EndsScript, EndsAtLimit}
 use Rattle.uvl_run.specs.Status.{PutsLast, status_of}
 use Rattle.uvl_run.proofs.Cutting.{ended_lines_from-append, open_line_from-append, replies_to-append}
+use Rattle.uvl_run.proofs.Kept.{kept-nil, replies-kept, open-kept, last-kept}
 use Rattle.uvl_run.proofs.Told.{appends_nothing, appends_both, consumes_nothing, consumes_both, take_length, some_of_front, some_behind}
 
--- So many bytes were taken, the lines that end in them have their replies, and the line that has begun is kept.
+-- So many bytes were taken, the lines that end in them have their replies, and of the line that has begun what matters is kept.
 pub record SoFar (model : Rows) (input left written_before written : Option (List ℕ)) (line : List ℕ) (count : ℕ) : Type 0 where
   pub taken : List ℕ
   pub counted : length taken ≡ count
   pub moved : Consumes input left taken
-  pub begun : line ≡ open_line taken
+  pub begun : line ≡ kept (open_line taken)
   pub replied : (tree : Tree) → Spells tree model → Appends written_before written (replies_to tree (ended_lines taken))
 
 -- nothing was taken yet
@@ -30,25 +31,26 @@ starts model input written line fresh = record {
   taken = [];
   counted = refl;
   moved = consumes_nothing input;
-  begun = fresh;
+  begun = fresh ∙ sym kept-nil;
   replied = λ tree spells. appends_nothing written;
 }
 
 -- the lines that end in what was taken and in the next piece, the first ones first
-lines_of_both : (tree : Tree) (taken xs line : List ℕ) → line ≡ open_line taken → replies_to tree (ended_lines taken) ++ replies_to tree (ended_lines_from line xs) ≡ replies_to tree (ended_lines (taken ++ xs))
+lines_of_both : (tree : Tree) (taken xs line : List ℕ) → line ≡ kept (open_line taken) → replies_to tree (ended_lines taken) ++ replies_to tree (ended_lines_from line xs) ≡ replies_to tree (ended_lines (taken ++ xs))
 lines_of_both tree taken xs line begun =
     ap (λ (t : List ℕ). replies_to tree (ended_lines taken) ++ replies_to tree (ended_lines_from t xs)) begun
+    ∙ ap (λ (t : List ℕ). replies_to tree (ended_lines taken) ++ t) (replies-kept tree (open_line taken) xs)
     ∙ sym (ap (replies_to tree) (ended_lines_from-append [] taken xs) ∙ replies_to-append tree (ended_lines taken) (ended_lines_from (open_line taken) xs))
 
 -- a piece was taken, and its lines have their replies
-pub goes_on : (model : Rows) (input left left' before w w' : Option (List ℕ)) (line line' xs : List ℕ) (count : ℕ) → SoFar model input left before w line count → Consumes left left' xs → line' ≡ open_line_from line xs → ((tree : Tree) → Spells tree model → Appends w w' (replies_to tree (ended_lines_from line xs))) → SoFar model input left' before w' line' (count + length xs)
+pub goes_on : (model : Rows) (input left left' before w w' : Option (List ℕ)) (line line' xs : List ℕ) (count : ℕ) → SoFar model input left before w line count → Consumes left left' xs → line' ≡ kept (open_line_from line xs) → ((tree : Tree) → Spells tree model → Appends w w' (replies_to tree (ended_lines_from line xs))) → SoFar model input left' before w' line' (count + length xs)
 goes_on model input left left' before w w' line line' xs count so_far moved begun replied =
     let taken = so_far.taken in
     record {
       taken = taken ++ xs;
       counted = length-append taken xs ∙ ap (λ (n : ℕ). n + length xs) so_far.counted;
       moved = consumes_both input left left' taken xs so_far.moved moved;
-      begun = begun ∙ ap (λ (t : List ℕ). open_line_from t xs) so_far.begun ∙ sym (open_line_from-append [] taken xs);
+      begun = begun ∙ ap (λ (t : List ℕ). kept (open_line_from t xs)) so_far.begun ∙ open-kept (open_line taken) xs ∙ sym (ap kept (open_line_from-append [] taken xs));
       replied = λ tree spells.
           let P : List ℕ → Type 0 = λ t. Appends before w' t in
           subst P (lines_of_both tree taken xs line so_far.begun) (appends_both before w w' (replies_to tree (ended_lines taken)) (replies_to tree (ended_lines_from line xs)) (so_far.replied tree spells) (replied tree spells));
@@ -97,9 +99,10 @@ took_all (Some bytes) None taken moved ended = absurd moved
 took_all (Some bytes) (Some rest) taken moved ended = moved ∙ ap (λ (t : List ℕ). taken ++ t) ended ∙ append-nil taken
 
 -- all lines are those that ended, and then the last one
-all_lines : (tree : Tree) (taken line : List ℕ) → line ≡ open_line taken → replies_to tree (ended_lines taken) ++ replies_to tree (last_line line) ≡ replies_to tree (script_lines taken)
+all_lines : (tree : Tree) (taken line : List ℕ) → line ≡ kept (open_line taken) → replies_to tree (ended_lines taken) ++ replies_to tree (last_line line) ≡ replies_to tree (script_lines taken)
 all_lines tree taken line begun =
     ap (λ (t : List ℕ). replies_to tree (ended_lines taken) ++ replies_to tree (last_line t)) begun
+    ∙ ap (λ (t : List ℕ). replies_to tree (ended_lines taken) ++ t) (last-kept tree (open_line taken))
     ∙ sym (replies_to-append tree (ended_lines taken) (last_line (open_line taken)))
 
 at_end_done : (model : Rows) (input left left' before w w' : Option (List ℕ)) (line : List ℕ) (count : ℕ) (tree : Tree) → Spells tree model → count ≤ most_script_bytes → SoFar model input left before w line count → IsAtEnd left → Consumes left left' [] → Appends w w' (replies_to tree (last_line line)) → AnswersScript tree input left' before w' Done

@@ -1,10 +1,9 @@
--- The answers of a small tree, on which the definitions are checked.
-use Rattle.std.specs.Prelude.{ℕ, List, Option}
+-- The replies of a small tree, on which the definitions are checked.
+use Rattle.std.specs.Prelude.{ℕ, List}
 use Rattle.uvl_model.specs.Examples.{thin_tree}
-use Rattle.uvl_run.specs.declared.reply.Reply.{Reply}
-use Rattle.uvl_run.specs.Lines.{without_cr}
-use Rattle.uvl_run.specs.Replies.{answer_to}
+use Rattle.uvl_script.specs.declared.command.Command.{Command}
+use Rattle.uvl_run.specs.Replies.{reply_to_command}
 
--- the answer to a line, the CR at its end dropped, on a car with a mandatory body and an optional radio
-abbrev pub thin_answer : List ℕ → Option Reply
-thin_answer line = answer_to thin_tree (without_cr line)
+-- the reply to a command on a car with a mandatory body and an optional radio
+abbrev pub thin_reply : Command → List ℕ
+thin_reply command = reply_to_command thin_tree command

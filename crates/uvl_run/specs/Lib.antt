@@ -1,4 +1,8 @@
+pub mod Budget
 pub mod CommandLine
+pub mod CommandLineForms
+pub mod CommandLineRules
+pub mod Compiled
 pub mod Exactly
 pub mod Examples
 pub mod InMemory
@@ -7,6 +11,7 @@ pub mod Lines
 pub mod LoadFaults
 pub mod Loading
 pub mod Replies
+pub mod ReplyTexts
 pub mod Run
 pub mod Script
 pub mod Status

@@ -1,5 +1,5 @@
 -- How the bytes of a script are cut into lines.
-use Rattle.std.specs.Prelude.{◌≡◌, ℕ, Bool, true, false, ◌||◌, ◌==◌, ⊤, List, [], ◌∷◌, ◌++◌, if◌then◌else◌}
+use Rattle.std.specs.Prelude.{◌≡◌, ℕ, Bool, false, ◌==◌, ⊤, List, [], ◌∷◌, ◌++◌, take, if◌then◌else◌}
 use Rattle.std.specs.List.{list_any}
 
 -- The lines that end within the bytes, where the first of them has begun with some bytes already. A line
@@ -55,33 +55,10 @@ last_line (b ∷ bs) = (b ∷ bs) ∷ []
 abbrev pub script_lines : List ℕ → List (List ℕ)
 script_lines bytes = ended_lines bytes ++ last_line (open_line bytes)
 
--- a line without the CR at its end, where it has one
-abbrev pub without_cr : List ℕ → List ℕ
-without_cr [] = []
-without_cr (b ∷ []) = if b == 13 then [] else b ∷ []
-without_cr (b ∷ c ∷ bs) = b ∷ without_cr (c ∷ bs)
+-- how many bytes of a line are kept while it hasn't ended: two more than a line may have, one of them a CR
+abbrev pub most_kept_bytes : ℕ
+most_kept_bytes = 65538
 
--- words are separated by spaces and tabs
-abbrev pub is_separator : ℕ → Bool
-is_separator b = b == 32 || b == 9
-
--- a line that is blank, or whose first character but spaces and tabs is `#`, has no reply
-abbrev pub is_silent : List ℕ → Bool
-is_silent [] = true
-is_silent (b ∷ bs) = if is_separator b then is_silent bs else b == 35
-
--- whether the bytes begin within a word
-abbrev pub begins_word : List ℕ → Bool
-begins_word [] = false
-begins_word (b ∷ bs) = if is_separator b then false else true
-
--- a byte in front of the first word
-abbrev pub onto_first : ℕ → List (List ℕ) → List (List ℕ)
-onto_first b [] = (b ∷ []) ∷ []
-onto_first b (word ∷ words) = (b ∷ word) ∷ words
-
--- the words of a line
-abbrev pub words_of : List ℕ → List (List ℕ)
-words_of [] = []
-words_of (b ∷ bs) =
-    if is_separator b then words_of bs else (if begins_word bs then onto_first b (words_of bs) else (b ∷ []) ∷ words_of bs)
+-- as much of a line as tells what it is read as: a line that goes on behind it is too long
+unfoldable pub kept : List ℕ → List ℕ
+kept line = take most_kept_bytes line

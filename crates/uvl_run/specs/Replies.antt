@@ -1,49 +1,49 @@
 -- What a line of a script is answered.
-use Rattle.std.specs.Prelude.{ℕ, Bool, ◌&&◌, ◌||◌, ◌==◌, nat_le, List, [], ◌∷◌, if◌then◌else◌, Option, Some, None, codes, flat_map}
+use Rattle.std.specs.Prelude.{ℕ, Bool, List, [], ◌++◌, if◌then◌else◌, Option, Some, None, Result, Ok, Err, codes, flat_map}
 use Rattle.std.specs.List.{list_all}
-use Rattle.std.specs.Str.{bytes_eq}
-use Rattle.uvl_model.specs.Tree.{Tree, names_of}
 use Rattle.uvl_model.specs.Product.{has, is_product}
-use Rattle.uvl_run.specs.declared.reply.Reply.{Reply}
-use Rattle.uvl_run.specs.declared.reply.Reply.TheVariants.{Yes, No, UnknownFeature, UnknownCommand}
-use Rattle.uvl_run.specs.Lines.{without_cr, is_separator, is_silent, words_of}
+use Rattle.uvl_model.specs.Tree.{Tree, names_of}
+use Rattle.uvl_model.specs.Void.{is_void}
+use Rattle.uvl_script.specs.declared.command.Command.{Command}
+use Rattle.uvl_script.specs.declared.command.Command.TheVariants.{Valid, Void}
+use Rattle.uvl_script.specs.declared.fault.LineFault.{LineFault}
+use Rattle.uvl_script.specs.Faults.{word_of}
+use Rattle.uvl_script.specs.Lines.{reading_of}
 
--- an ASCII letter, a digit or `_`
-abbrev pub is_word_byte : ℕ → Bool
-is_word_byte b =
-    (nat_le 97 b && nat_le b 122) || (nat_le 65 b && nat_le b 90) || (nat_le 48 b && nat_le b 57) || b == 95
+-- a reply of one line: the line, and then a line with a point
+abbrev pub reply_of : List ℕ → List ℕ
+reply_of line = line ++ codes "\n.\n"
 
--- a line of words of such bytes alone
-abbrev pub is_plain : List ℕ → Bool
-is_plain line = list_all (λ b. is_word_byte b || is_separator b) line
+-- the reply to a question
+abbrev pub yes_or_no : Bool → List ℕ
+yes_or_no answer = reply_of (if answer then codes "yes" else codes "no")
 
--- whether the named features are a product of the tree; a name that is no feature is refused
-abbrev pub answer_to_valid : Tree → List (List ℕ) → Reply
-answer_to_valid tree names =
-    if list_all (has (names_of tree)) names then (if is_product tree names then Yes else No) else UnknownFeature
+-- the reply to a line that is refused for this reason
+abbrev pub refused : List ℕ → List ℕ
+refused word = reply_of (codes "refused " ++ word)
 
--- the answer to the words of a line, of which the first is the command
-abbrev pub answer_to_words : Tree → List (List ℕ) → Reply
-answer_to_words tree [] = UnknownCommand
-answer_to_words tree (command ∷ names) = if bytes_eq command (codes "valid") then answer_to_valid tree names else UnknownCommand
+-- The reply to a command. `valid`: the named features are a product; a name that is no feature is refused. `void`:
+-- there is no product.
+abbrev pub reply_to_command : Tree → Command → List ℕ
+reply_to_command tree (Valid names) =
+    if list_all (has (names_of tree)) names then yes_or_no (is_product tree names) else refused (codes "unknown-feature")
+reply_to_command tree Void = yes_or_no (is_void tree)
 
--- the answer to a line without its line end: none where the line is blank or a comment
-abbrev pub answer_to : Tree → List ℕ → Option Reply
-answer_to tree line =
-    if is_silent line then None else Some (if is_plain line then answer_to_words tree (words_of line) else UnknownCommand)
+-- the reply to a line with a fault, by the word of the fault
+abbrev pub reply_by_word : Option (List ℕ) → List ℕ
+reply_by_word None = []
+reply_by_word (Some word) = refused word
 
--- the bytes of a reply: its lines, and then a line with a point
-unfoldable pub reply_text : Reply → List ℕ
-reply_text Yes = codes "yes\n.\n"
-reply_text No = codes "no\n.\n"
-reply_text UnknownFeature = codes "refused unknown-feature\n.\n"
-reply_text UnknownCommand = codes "refused unknown-command\n.\n"
+-- the reply to what a line is read as; a line without words has none
+abbrev pub reply_to_reading : Tree → Result (Option Command) LineFault → List ℕ
+reply_to_reading tree (Ok None) = []
+reply_to_reading tree (Ok (Some command)) = reply_to_command tree command
+reply_to_reading tree (Err fault) = reply_by_word (word_of fault)
 
--- the bytes that answer a line
-abbrev pub bytes_for : Option Reply → List ℕ
-bytes_for None = []
-bytes_for (Some reply) = reply_text reply
+-- the bytes that answer a line, given without its LF
+unfoldable pub reply_to : Tree → List ℕ → List ℕ
+reply_to tree line = reply_to_reading tree (reading_of line)
 
 -- the bytes that answer lines, one after another
 abbrev pub replies_to : Tree → List (List ℕ) → List ℕ
-replies_to tree lines = flat_map (λ line. bytes_for (answer_to tree (without_cr line))) lines
+replies_to tree lines = flat_map (reply_to tree) lines

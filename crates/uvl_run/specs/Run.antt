@@ -1,5 +1,5 @@
 -- What a run of the program writes, and how it ends, for every command line, every file and every script.
-use Rattle.std.specs.Prelude.{◌≡◌, ℕ, ◌≤◌, ◌⊎◌, List, [], ◌++◌, Option, Some, None, codes}
+use Rattle.std.specs.Prelude.{◌≡◌, ℕ, ◌<◌, ◌≤◌, ◌⊎◌, List, [], ◌++◌, Option, Some, None, codes}
 use Rattle.std.specs.Bool.{OnTrue, OnFalse}
 use Rattle.std.specs.Io.KnownBytes.{Consumes, Appends}
 use Rattle.uvl_outside.specs.Faults.{one_more}
@@ -9,26 +9,35 @@ use Rattle.uvl_base.specs.declared.fault.ModelFault.{ModelFault}
 use Rattle.uvl_base.specs.Fault.{fault_text}
 use Rattle.uvl_model.specs.Tree.{Tree}
 use Rattle.uvl_run.specs.declared.status.Status.{Status}
-use Rattle.uvl_run.specs.declared.status.Status.TheVariants.{Done, Usage, Model, ReadFault, WriteFault, NoMemory, TooMuchInput}
-use Rattle.uvl_run.specs.CommandLine.{model_path, usage_line}
+use Rattle.uvl_run.specs.declared.status.Status.TheVariants.{Done, Usage, Model, ReadFault, WriteFault, OverBudget, NoMemory, TooMuchInput}
+use Rattle.uvl_run.specs.Budget.{nodes_for, budget_line}
+use Rattle.uvl_run.specs.CommandLine.{Request, request_of, usage_line}
 use Rattle.uvl_run.specs.Loading.{LoadsModel, LoadsFault, at_front}
 use Rattle.uvl_run.specs.Script.{IsFrontOf, AreRepliesTo, EndsScript}
 use Rattle.uvl_run.specs.Status.{is_read_fault}
 
 -- the words name no model
 abbrev pub IsRefused : List (List ℕ) → Type 0
-IsRefused words = model_path words ≡ None
+IsRefused words = request_of words ≡ None
 
--- the words name a model, and it is that of the tree
+-- the words name a model, it is that of the tree, and the budget suffices
 pub record IsAccepted (words : List (List ℕ)) (told : Option Contents) (tree : Tree) : Type 0 where
-  pub path : List ℕ
-  pub named : model_path words ≡ Some path
-  pub loads : LoadsModel told path tree
+  pub request : Request
+  pub named : request_of words ≡ Some request
+  pub loads : LoadsModel told request.path tree
+  pub enough : nodes_for tree ≤ request.budget
+
+-- the words name a model, it is that of the tree, and the budget is too small
+pub record IsOverBudget (words : List (List ℕ)) (told : Option Contents) (tree : Tree) : Type 0 where
+  pub request : Request
+  pub named : request_of words ≡ Some request
+  pub loads : LoadsModel told request.path tree
+  pub short : request.budget < nodes_for tree
 
 -- the words name a model, and it has the fault
-pub record IsFaulty (words : List (List ℕ)) (told : Option Contents) (path : List ℕ) (kind : FaultKind) : Type 0 where
-  pub named : model_path words ≡ Some path
-  pub faulty : LoadsFault told path kind
+pub record IsFaulty (words : List (List ℕ)) (told : Option Contents) (request : Request) (kind : FaultKind) : Type 0 where
+  pub named : request_of words ≡ Some request
+  pub faulty : LoadsFault told request.path kind
 
 -- what is written of a fault of the model
 unfoldable pub fault_line : ModelFault → List ℕ
@@ -38,7 +47,8 @@ fault_line fault = codes "fault " ++ fault_text fault ++ codes "\n"
 abbrev pub RunWrites : List (List ℕ) → Option Contents → Option (List ℕ) → List ℕ → List ℕ → Type 0
 RunWrites words told input taken text =
     (IsRefused words × (taken ≡ []) × (text ≡ usage_line))
-    ⊎ ((path : List ℕ) × (kind : FaultKind) × IsFaulty words told path kind × (taken ≡ []) × (text ≡ fault_line (at_front path kind)))
+    ⊎ ((request : Request) × (kind : FaultKind) × IsFaulty words told request kind × (taken ≡ []) × (text ≡ fault_line (at_front request.path kind)))
+    ⊎ ((tree : Tree) × IsOverBudget words told tree × (taken ≡ []) × (text ≡ budget_line))
     ⊎ ((tree : Tree) × IsAccepted words told tree × AreRepliesTo tree input taken text)
 
 -- a front of that, none of it or all perhaps
@@ -54,11 +64,12 @@ abbrev pub EndsRun : List (List ℕ) → Option Contents → Option (List ℕ) �
 EndsRun words told input taken said Done = (tree : Tree) × IsAccepted words told tree × EndsScript tree input taken said Done
 EndsRun words told input taken said Usage = IsRefused words × (taken ≡ []) × (said ≡ usage_line)
 EndsRun words told input taken said Model =
-    (path : List ℕ) × (kind : FaultKind) × IsFaulty words told path kind × (taken ≡ []) × (said ≡ fault_line (at_front path kind))
+    (request : Request) × (kind : FaultKind) × IsFaulty words told request kind × (taken ≡ []) × (said ≡ fault_line (at_front request.path kind))
 EndsRun words told input taken said ReadFault =
-    ((path : List ℕ) × (model_path words ≡ Some path) × IsUntouched taken said)
+    ((request : Request) × (request_of words ≡ Some request) × IsUntouched taken said)
     ⊎ ((tree : Tree) × IsAccepted words told tree × EndsScript tree input taken said ReadFault)
 EndsRun words told input taken said WriteFault = IsFrontOfRun words told input taken said
+EndsRun words told input taken said OverBudget = (tree : Tree) × IsOverBudget words told tree × (taken ≡ []) × (said ≡ budget_line)
 EndsRun words told input taken said NoMemory = IsUntouched taken said ⊎ IsFrontOfRun words told input taken said
 EndsRun words told input taken said TooMuchInput = (tree : Tree) × IsAccepted words told tree × EndsScript tree input taken said TooMuchInput
 

@@ -2,11 +2,12 @@
 use Rattle.std.specs.Prelude.{◌≡◌, ℕ, ◌<◌, ◌≤◌, ◌⊎◌, List, [], ◌∷◌, ◌++◌, length, take, Option, IfSome}
 use Rattle.std.specs.Io.KnownBytes.{Keeps, Consumes, Appends, IsAtEnd}
 use Rattle.uvl_model.specs.Tree.{Tree}
+use Rattle.uvl_run.specs.Budget.{nodes_for, budget_line}
 use Rattle.uvl_run.specs.Lines.{ended_lines, script_lines, last_line}
 use Rattle.uvl_run.specs.Replies.{replies_to}
 use Rattle.uvl_run.specs.Status.{PutsLast}
 use Rattle.uvl_run.specs.declared.status.Status.{Status}
-use Rattle.uvl_run.specs.declared.status.Status.TheVariants.{Done, Usage, Model, ReadFault, WriteFault, NoMemory, TooMuchInput}
+use Rattle.uvl_run.specs.declared.status.Status.TheVariants.{Done, Usage, Model, ReadFault, WriteFault, OverBudget, NoMemory, TooMuchInput}
 
 -- the most bytes of a script
 abbrev pub most_script_bytes : ℕ
@@ -41,6 +42,7 @@ EndsScript tree input taken said WriteFault = IsFrontOfReplies tree input taken 
 EndsScript tree input taken said NoMemory = IsFrontOfReplies tree input taken said
 EndsScript tree input taken said Usage = ⊥
 EndsScript tree input taken said Model = ⊥
+EndsScript tree input taken said OverBudget = ⊥
 
 -- Some bytes were taken from the front of the input, and what was said was written behind what was
 -- written before, where source and sink tell their bytes.
@@ -50,6 +52,13 @@ pub record AnswersScript (tree : Tree) (input left : Option (List ℕ)) (written
   pub moved : Consumes input left taken
   pub wrote : Appends written_before written said
   pub ends : EndsScript tree input taken said status
+
+-- What was said and taken by a run that has loaded the model of a tree: the script was answered where the budget suffices;
+-- else that it doesn't was written, and nothing was taken.
+abbrev pub AnswersModel : Tree → ℕ → Option (List ℕ) → Option (List ℕ) → Option (List ℕ) → Option (List ℕ) → Status → Type 0
+AnswersModel tree budget input left written_before written status =
+    ((nodes_for tree ≤ budget) × AnswersScript tree input left written_before written status)
+    ⊎ ((budget < nodes_for tree) × (left ≡ input) × PutsLast written_before written budget_line OverBudget status)
 
 -- one more byte was taken
 abbrev pub TakesOneMore : Option (List ℕ) → Option (List ℕ) → Type 0

@@ -5,7 +5,7 @@ use Rattle.uvl_outside.specs.Sink.{AppendsFront}
 use Rattle.uvl_outside.specs.declared.sink.PutFault.{PutFault}
 use Rattle.uvl_outside.specs.declared.sink.PutFault.TheVariants.{Failed, OutOfMemory}
 use Rattle.uvl_run.specs.declared.status.Status.{Status}
-use Rattle.uvl_run.specs.declared.status.Status.TheVariants.{Done, Usage, Model, ReadFault, WriteFault, NoMemory, TooMuchInput}
+use Rattle.uvl_run.specs.declared.status.Status.TheVariants.{Done, Usage, Model, ReadFault, WriteFault, OverBudget, NoMemory, TooMuchInput}
 
 -- the exit status of the program
 abbrev pub number_of : Status → ℕ
@@ -14,6 +14,7 @@ number_of Usage = 2
 number_of Model = 3
 number_of ReadFault = 4
 number_of WriteFault = 5
+number_of OverBudget = 6
 number_of NoMemory = 7
 number_of TooMuchInput = 8
 
@@ -24,6 +25,7 @@ is_read_fault Usage = false
 is_read_fault Model = false
 is_read_fault ReadFault = true
 is_read_fault WriteFault = false
+is_read_fault OverBudget = false
 is_read_fault NoMemory = false
 is_read_fault TooMuchInput = false
 
@@ -34,6 +36,7 @@ is_write_fault Usage = false
 is_write_fault Model = false
 is_write_fault ReadFault = false
 is_write_fault WriteFault = true
+is_write_fault OverBudget = false
 is_write_fault NoMemory = false
 is_write_fault TooMuchInput = false
 

@@ -1,25 +1,124 @@
-//! The words of the command line.
-ghost use Rattle.std.specs.Prelude.{◌≡◌, map, option_map};
-ghost use Rattle.uvl_run.specs.CommandLine.{is_path, model_path, usage_line};
+//! The words of the command line. `clap` says which word is the option's value and which the model;
+//! that they are written as they have to be is checked here, and no text of `clap` is shown.
+ghost use Rattle.std.specs.Prelude.{◌≡◌, ◌≤◌, IfOk, IfSome, IsFalse, codes, map, option_map};
+ghost use Rattle.std.specs.Char.{is_ascii_digit};
+ghost use Rattle.std.specs.List.{list_all};
+ghost use Rattle.std.specs.Str.{bytes_eq, IsUtf8};
+ghost use Rattle.clap.specs.Words.{app_of};
+ghost use Rattle.uvl_run.specs.CommandLine.{budget_of, request, request_of, request_with, usage_line};
+ghost use Rattle.uvl_run.specs.CommandLineRules.{AreTexts, has_lone_hyphen, words_command};
+
+use clap::error::ErrorKind;
+use clap::{Arg, ArgAction, Command};
+use std::alloc::{AllocError, Global};
 
 /// What is written where the words are refused.
 pub(crate) const USAGE_LINE: &str = "usage: uvl [--budget N] MODEL | uvl [--budget N] --demo N\n";
 
-/// The path of the model: the only word, where it isn't empty and doesn't begin with `-`.
-pub(crate) fn model_path<'a>(words: &[&'a str]) -> Option<&'a str>
-    ensures { option_map (λ path. path.now) result ≡ model_path (map (λ word. word.now) words.now) }
+/// How many nodes the table of diagrams may hold where the words don't say it.
+const DEFAULT_BUDGET: u32 = 1_048_576;
+
+/// What the words ask for.
+#[derive(Clone, Copy, Debug, PartialEq, Eq)]
+pub(crate) struct Request<'a> {
+    /// The path of the model.
+    pub path: &'a str,
+    /// How many nodes the table of diagrams may hold.
+    pub budget: u32,
+}
+
+/// What the words ask for, or none where they are refused.
+pub(crate) fn read_words<'a>(
+    alloc: Global,
+    words: &'a [&'a str],
+) -> Result<Option<Request<'a>>, AllocError>
+    ensures request { IfOk result (λ asked. option_map (λ r. request r.path.now r.budget) asked ≡ request_of (map (λ word. word.now) words.now)) }
+    ensures in_range { IfOk result (λ asked. IfSome asked (λ r. (16 ≤ r.budget) × (r.budget ≤ 16777216))) }
 {
-    match words {
-        [word] if is_path(word) => Some(word),
+    if has_lone_hyphen(words) {
+        return Ok(None);
+    }
+    match command(alloc)?.try_get_matches_from(words) {
+        Ok(matches) => Ok(request_with(matches.get_str("model"), matches.get_str("budget"))),
+        Err(error) => match error.kind() {
+            ErrorKind::OutOfMemory => Err(AllocError),
+            _ => Ok(None),
+        },
+    }
+}
+
+/// Does a lone `-` stand in front of the first `--`? `clap` would take it as the model.
+fn has_lone_hyphen(words: &[&str]) -> bool
+    ensures lone { result ≡ has_lone_hyphen (map (λ word. word.now) words.now) }
+    // For any other word that begins with `-` what `clap` does is known where the word is text.
+    ensures texts { IsFalse result → AreTexts (map (λ word. word.now) words.now) }
+{
+    for word in words {
+        if *word == "--" {
+            return false;
+        }
+        if is_hyphen(word) {
+            return true;
+        }
+    }
+    false
+}
+
+/// Is the word a lone `-`?
+fn is_hyphen(word: &str) -> bool
+    ensures value { result ≡ bytes_eq word.now (codes "-") }
+    ensures text { IsUtf8 word.now }
+{
+    word == "-"
+}
+
+/// The command by which `clap` reads the words.
+fn command<'a>(alloc: Global) -> Result<Command<'a>, AllocError>
+    ensures { IfOk result (λ command. app_of command ≡ words_command) }
+{
+    let budget = Arg::new(alloc, "budget")
+        .long("budget")
+        .action(ArgAction::Set);
+    let model = Arg::new(alloc, "model").action(ArgAction::Set);
+    Command::new(alloc, "uvl")
+        .no_binary_name(true)
+        .disable_help_flag(true)
+        .disable_version_flag(true)
+        .arg(budget)?
+        .arg(model)
+}
+
+/// What a path and a value of the option ask for, where they are given.
+fn request_with<'a>(path: Option<&'a str>, value: Option<&str>) -> Option<Request<'a>>
+    ensures request { option_map (λ r. request r.path.now r.budget) result ≡ request_with (option_map (λ word. word.now) path.entry) (option_map (λ word. word.now) value.entry) }
+    ensures in_range { IfSome result (λ r. (16 ≤ r.budget) × (r.budget ≤ 16777216)) }
+{
+    let path = path.filter(|path| !path.is_empty())?;
+    let budget = match value {
+        Some(digits) => read_budget(digits)?,
+        None => DEFAULT_BUDGET,
+    };
+    Some(Request { path, budget })
+}
+
+/// The budget that a value of the option writes: one to eight digits, 16 to 16,777,216.
+fn read_budget(value: &str) -> Option<u32>
+    ensures { result ≡ budget_of value.now }
+{
+    if !are_digits(value) || value.is_empty() || value.len() > 8 {
+        return None;
+    }
+    match value.parse::<u32>() {
+        Ok(budget) if (16..=16_777_216).contains(&budget) => Some(budget),
         _ => None,
     }
 }
 
-fn is_path(word: &str) -> bool
-    ensures { result ≡ is_path word.now }
+fn are_digits(text: &str) -> bool
+    ensures { result ≡ list_all is_ascii_digit text.now }
 {
-    match word.as_bytes() {
-        [] => false,
-        [first, ..] => *first != b'-',
-    }
+    text.bytes().all(|byte| byte.is_ascii_digit())
 }
+
+#[cfg(test)]
+mod tests;

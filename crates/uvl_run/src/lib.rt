@@ -3,6 +3,7 @@
 
 mod answer;
 mod command_line;
+mod compiled;
 mod in_memory;
 mod laws;
 mod lines;
@@ -12,10 +13,11 @@ mod script;
 mod status;
 mod thin;
 mod top;
-mod words;
 
 pub use in_memory::run_in_memory;
-pub use laws::{every_script_has_one_cut, thin_files_have_one_tree};
+pub use laws::{
+    every_script_has_one_cut, the_command_line_has_these_forms, thin_files_have_one_tree,
+};
 pub use status::Status;
 pub use top::run;
 

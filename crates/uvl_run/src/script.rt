@@ -4,17 +4,18 @@ ghost use Rattle.uvl_outside.specs.Faults.{Counts};
 ghost use Rattle.uvl_outside.specs.Sink.{Puts, put_failed};
 ghost use Rattle.uvl_model.specs.Tree.{Tree};
 ghost use Rattle.uvl_model.specs.Spelling.{Spells};
-ghost use Rattle.uvl_run.specs.Lines.{without_cr, ended_lines_from, open_line_from, last_line};
-ghost use Rattle.uvl_run.specs.Replies.{answer_to, bytes_for, replies_to};
+ghost use Rattle.uvl_run.specs.Lines.{ended_lines_from, open_line_from, last_line, kept};
+ghost use Rattle.uvl_run.specs.Replies.{reply_to, replies_to};
 ghost use Rattle.uvl_run.specs.Script.{AnswersScript, EndsAtLimit};
 ghost use Rattle.uvl_run.specs.Status.{PutsLast, is_read_fault, is_write_fault};
 
 use crate::Status;
 use crate::answer::answer;
+use crate::compiled::Compiled;
 use crate::lines::split_line;
 use std::alloc::{AllocError, Global};
-use uvl_model::Model;
 use uvl_outside::{Failed, PutFault, Sink, Source};
+use uvl_script::MOST_LINE_BYTES;
 
 /// The most bytes of a script.
 const MOST_SCRIPT_BYTES: usize = 67_108_864;
@@ -22,24 +23,29 @@ const MOST_SCRIPT_BYTES: usize = 67_108_864;
 /// The most bytes that are taken at once.
 const PIECE_BYTES: usize = 65_536;
 
+/// The most bytes that are kept of a line which hasn't ended. A line that has more is too long,
+/// whatever they are: one of them may be a CR in front of the LF.
+const MOST_KEPT_BYTES: usize = MOST_LINE_BYTES + 2;
+
 /// A script that is being read: its model, and the line that has begun.
 #[derive(Drop)]
 pub(crate) struct Script {
     alloc: Global,
-    pub(crate) model: Model,
+    pub(crate) model: Compiled,
     /// Room for a mark per feature, kept from line to line.
     chosen: Vec<bool>,
-    /// What has come of the line that has begun, where it began in an earlier piece.
+    /// What is kept of the line that has begun, where it began in an earlier piece.
     pub(crate) line: Vec<u8>,
     ghost marked: { vec_len chosen ≡ length model.features },
+    ghost short: { vec_len line ≤ 65538 },
 }
 
 impl Script {
     /// A script of which nothing has come.
-    pub(crate) fn new(alloc: Global, model: Model) -> Result<Script, AllocError>
+    pub(crate) fn new(alloc: Global, model: Compiled) -> Result<Script, AllocError>
         ensures { IfOk result (λ script. (script.model ≡ model) × (script.line.items ≡ [])) }
     {
-        let chosen = vec![in alloc; false; model.features().len()]?;
+        let chosen = vec![in alloc; false; model.feature_count()]?;
         let line = Vec::new(alloc);
         Ok(Script {
             alloc,
@@ -92,14 +98,14 @@ impl Script {
         }
     }
 
-    /// Answers the lines that end in a piece, and keeps what has come of the next.
+    /// Answers the lines that end in a piece, and keeps the front of the next.
     pub(crate) fn answer_piece<K: Sink>(
         &mut self,
         piece: &[u8],
         out: &mut K,
     ) -> Result<(), PutFault>
         ensures model { self.new.model ≡ self.old.model }
-        ensures begun { OnOk result (self.new.line.items ≡ open_line_from self.old.line.items piece.now) }
+        ensures begun { OnOk result (self.new.line.items ≡ kept (open_line_from self.old.line.items piece.now)) }
         ensures replies { (tree : Tree) → Spells tree self.old.model →
             Puts (K.written out.old) (K.written out.new) (replies_to tree (ended_lines_from self.old.line.items piece.now)) result }
         ensures counted { Counts (K.faults out.old) (K.faults out.new) (put_failed result) }
@@ -109,7 +115,18 @@ impl Script {
             self.end_line(front, out)?;
             rest = behind;
         }
-        self.line.extend_from_slice(rest)?;
+        self.keep(rest)?;
+        Ok(())
+    }
+
+    /// Keeps the front of these bytes too, as far as it matters.
+    fn keep(&mut self, bytes: &[u8]) -> Result<(), AllocError>
+        ensures model { self.new.model ≡ self.old.model }
+        ensures line { OnOk result (self.new.line.items ≡ kept (self.old.line.items ++ bytes.now)) }
+    {
+        let room = MOST_KEPT_BYTES - self.line.len();
+        self.line
+            .extend_from_slice(&bytes[..room.min(bytes.len())])?;
         Ok(())
     }
 
@@ -118,13 +135,13 @@ impl Script {
         ensures model { self.new.model ≡ self.old.model }
         ensures begun { OnOk result (self.new.line.items ≡ []) }
         ensures reply { (tree : Tree) → Spells tree self.old.model →
-            Puts (K.written out.old) (K.written out.new) (bytes_for (answer_to tree (without_cr (self.old.line.items ++ end.now)))) result }
+            Puts (K.written out.old) (K.written out.new) (reply_to tree (self.old.line.items ++ end.now)) result }
         ensures counted { Counts (K.faults out.old) (K.faults out.new) (put_failed result) }
     {
         if self.line.is_empty() {
             return put_answer(self.alloc, &self.model, &mut self.chosen, end, out);
         }
-        self.line.extend_from_slice(end)?;
+        self.keep(end)?;
         put_answer(self.alloc, &self.model, &mut self.chosen, &self.line, out)?;
         self.line.clear();
         Ok(())
@@ -150,17 +167,17 @@ impl Script {
 /// Writes the reply to a line without its LF.
 fn put_answer<K: Sink>(
     alloc: Global,
-    model: &Model,
+    model: &Compiled,
     chosen: &mut [bool],
     line: &[u8],
     out: &mut K,
 ) -> Result<(), PutFault>
     requires { length chosen.old ≡ length model.now.features }
     ensures reply { (tree : Tree) → Spells tree model.now →
-        Puts (K.written out.old) (K.written out.new) (bytes_for (answer_to tree (without_cr line.now))) result }
+        Puts (K.written out.old) (K.written out.new) (reply_to tree line.now) result }
     ensures counted { Counts (K.faults out.old) (K.faults out.new) (put_failed result) }
 {
-    match answer(model, chosen, line) {
+    match answer(alloc, model, chosen, line)? {
         None => Ok(()),
         Some(reply) => out.put(alloc, reply.text().as_bytes()),
     }
@@ -169,7 +186,7 @@ fn put_answer<K: Sink>(
 /// Answers the lines of a script as they come, to its end.
 pub(crate) fn answer_script<S: Source, K: Sink>(
     alloc: Global,
-    model: Model,
+    model: Compiled,
     input: &mut S,
     out: &mut K,
 ) -> Status

@@ -17,6 +17,9 @@ pub enum Status {
     ReadFault,
     /// The host failed while a reply was written. A front of the run's bytes is written.
     WriteFault,
+    /// The budget of nodes is too small for the model. The line `refused budget` is written, and
+    /// nothing is read from the input.
+    OverBudget,
     /// Memory is wanting. The replies before it are written whole, and perhaps a front of the next.
     NoMemory,
     /// The script has more than 67,108,864 bytes. The lines that end within these have their replies.
@@ -34,6 +37,7 @@ impl Status {
             Status::Model => 3,
             Status::ReadFault => 4,
             Status::WriteFault => 5,
+            Status::OverBudget => 6,
             Status::NoMemory => 7,
             Status::TooMuchInput => 8,
         }

@@ -22,11 +22,11 @@ pub fn read_line(alloc: Global, line: &[u8]) -> Result<Option<Command>, LineFaul
     ensures refused { IfErr (reading_of line.now) (λ fault. result ≡ Err fault) }
     ensures silent { reading_of line.now ≡ Ok None → result ≡ Ok None }
 {
-    let line = without_cr(line);
-    if line.len() > MOST_LINE_BYTES {
+    let bare = without_cr(line);
+    if bare.len() > MOST_LINE_BYTES {
         return Err(LineFault::TooLong);
     }
-    read_words(alloc, line)
+    read_words(alloc, bare)
 }
 
 /// Reads a line without its line end, however long it is.

@@ -1,6 +1,5 @@
 -- The first row has one handle, whose value is what the whole outline allows.
 use Rattle.std.proofs.Common.{◌≡◌, ℕ, List, [], ◌∷◌, sym, ap, ◌∙◌, length, slice_index, arith}
-use Rattle.dd_store.specs.Follow.{assignment_of}
 use Rattle.dd_store.specs.Table.{value_of}
 use Rattle.uvl_compile.specs.declared.outline.Entry.{Entry}
 use Rattle.uvl_compile.specs.Choice.{is_allowed}
@@ -22,11 +21,10 @@ pub returns-clause-gained : goal.returns-clause-gained
 returns-clause-gained c = gains_one c.in_ok-row.ensures.held (one_handle c)
 
 pub returns-clause-products : goal.returns-clause-products
-returns-clause-products c = λ tree marks spelled.
+returns-clause-products c = λ tree a spelled.
     let sound = c.features.ensures.sound in
-    let a = assignment_of marks in
     let whole = c.deref.ensures.value ∙ c.in_ok-entries.ensures.outline tree spelled in
-    let law = c.outline_tells_products.ensures tree c.args.model.now marks sound c.requires.thin spelled in
+    let law = c.outline_tells_products.ensures tree c.args.model.now a sound c.requires.thin spelled in
     let only = one_handle c in
     let first : slice_index c.in_ok-row.row.items 0 ≡ c.in-Some.handle = ap (λ (hs : List ℕ). slice_index hs 0) only in
     let size = ap length only in

@@ -1,5 +1,5 @@
 -- What is read one token after another is the layout by lines.
-use Rattle.std.proofs.Common.{◌≡◌, List, Result, Ok, Err, refl, sym, ◌∙◌, subst, rules}
+use Rattle.std.proofs.Common.{◌≡◌, ℕ, List, Result, Ok, Err, refl, sym, ◌∙◌, subst, rules}
 use Rattle.std.specs.Prelude.{chars, IfOk, IfErr, IsErr}
 use Rattle.uvl_base.specs.declared.place.Place.{Place}
 use Rattle.uvl_base.specs.declared.fault.FaultKind.{FaultKind}
@@ -8,8 +8,10 @@ use Rattle.uvl_lexer.specs.declared.fault.LexFault.TheVariants.{At, OutOfMemory}
 use Rattle.uvl_lexer.specs.declared.token.Token.{Token}
 use Rattle.uvl_lexer.specs.Layout.{Lexed}
 use Rattle.uvl_lexer.specs.Reading.{OnFault}
+use Rattle.uvl_lexer.specs.TokenList.{IsTokenList}
 use Rattle.uvl_lexer.specs.Turns.{read_through}
 use Rattle.uvl_lexer.proofs.Laying.{lexed-reads}
+use Rattle.uvl_lexer.proofs.TokenLists.{tokens_are_a_list}
 use Rattle.uvl_lexer.proofs.lexer.lex.Goals as goal
 
 pub returns-clause-tokens : goal.returns-clause-tokens
@@ -40,3 +42,12 @@ pub returns-clause-never_read : goal.returns-clause-never_read
 returns-clause-never_read c =
     let text = chars c.args.text.now in
     λ place kind stop. stops_refused c.read_text.result (λ made. made.items) (read_through text) place kind (sym (lexed-reads text) ∙ stop) c.read_text.ensures.tokens
+
+-- tokens that are answered are a list of tokens
+tokens_list : {A : Type 0} (r : Result A LexFault) (items : A → List Token) (text : List ℕ) → IfOk r (λ made. read_through text ≡ Ok (items made))
+    → IfOk r (λ made. IsTokenList (items made))
+tokens_list (Ok made) items text has = tokens_are_a_list text (items made) (lexed-reads text ∙ has)
+tokens_list (Err fault) items text has = search rules
+
+pub returns-clause-list : goal.returns-clause-list
+returns-clause-list c = tokens_list c.read_text.result (λ made. made.items) (chars c.args.text.now) c.read_text.ensures.tokens

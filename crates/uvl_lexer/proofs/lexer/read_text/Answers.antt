@@ -6,11 +6,11 @@ use Rattle.uvl_lexer.specs.Cut.{Cut, cut, piece_onto}
 use Rattle.uvl_lexer.specs.Turns.{read_through}
 use Rattle.uvl_lexer.specs.Pieces.{Piece, piece_at}
 use Rattle.uvl_lexer.specs.Reading.{read_on}
-use Rattle.uvl_lexer.specs.Spellings.{IsPiece}
+use Rattle.uvl_lexer.specs.Forms.{HasForm}
 use Rattle.uvl_lexer.proofs.Cutting.{cut_piece}
 use Rattle.uvl_lexer.proofs.Laying.{OnFault-map}
 use Rattle.uvl_lexer.proofs.Sizes.{count_within}
-use Rattle.uvl_lexer.proofs.Spelled.{piece_spells}
+use Rattle.uvl_lexer.proofs.Found.{found, taken}
 use Rattle.uvl_lexer.proofs.lexer.read_text.Goals as goal
 
 -- a cut begins with the piece that has been split off
@@ -26,7 +26,9 @@ piece_at-requires c = omega (arith, count_within c.loop-piece.rest.now c.loop-pi
 pub take-requires-clause-spelled : goal.take-requires-clause-spelled
 take-requires-clause-spelled c =
     let p = c.in-Some.piece in
-    subst (λ (t : List ℕ). IsPiece p.0 t) (sym c.split_at_count.ensures.front) (piece_spells (chars c.loop-piece.rest.now) p (sym c.in-Some.ensures.piece))
+    let text = chars c.loop-piece.rest.now in
+    let h = found text p (sym c.in-Some.ensures.piece) in
+    subst (λ (t : List ℕ). HasForm p.0 t) (sym (c.split_at_count.ensures.front ∙ taken text p h)) h.form
 
 pub loop-piece-preserved : goal.loop-piece-preserved
 loop-piece-preserved c =

@@ -9,14 +9,17 @@ use Rattle.uvl_lexer.specs.declared.token.TokenKind.TheVariants as token
 use Rattle.uvl_lexer.specs.declared.piece.Lexeme.{Lexeme}
 use Rattle.uvl_lexer.specs.Words.{word_of}
 use Rattle.uvl_lexer.specs.Layout.{token_of, word_or_name}
-use Rattle.uvl_lexer.specs.Spellings.{IsSpelling, IsReadable}
+use Rattle.uvl_lexer.specs.Forms.{HasTokenForm}
+use Rattle.uvl_lexer.specs.Spellings.{IsReadable}
+use Rattle.uvl_lexer.proofs.Names.{identifier-is_name}
+use Rattle.uvl_lexer.proofs.Numbers.{number-is_number}
 use Rattle.uvl_lexer.proofs.spelling.token_of.Goals as goal
 
 pub number_of-requires-clause-number : goal.number_of-requires-clause-number
 number_of-requires-clause-number c =
     let s = c.args.spelling.now in
     let bytes : encode_utf8_all (chars s) ≡ s = encodes-chars s c.utf8.spelling in
-    subst (λ (b : List ℕ). is_number b ≡ true) bytes (subst (λ (l : Lexeme). IsSpelling l (chars s)) c.in-Number.is c.requires.spelled)
+    subst (λ (b : List ℕ). is_number b ≡ true) bytes (number-is_number (chars s) (subst (λ (l : Lexeme). HasTokenForm l (chars s)) c.in-Number.is c.requires.spelled))
 
 pub number_of-requires-clause-readable : goal.number_of-requires-clause-readable
 number_of-requires-clause-readable c =
@@ -38,3 +41,8 @@ returns-in-Number-clause-token c =
     let bytes : encode_utf8_all (chars s) ≡ s = encodes-chars s c.utf8.spelling in
     c.number_of.ensures
     ∙ sym (ap (λ (l : Lexeme). token_of l (chars s)) c.in-Number.is ∙ ap (λ (b : List ℕ). token.Number (millionths_of b) (not (list_any is_point b))) bytes)
+
+pub word_or_name-requires : goal.word_or_name-requires
+word_or_name-requires c =
+    let s = c.args.spelling.now in
+    identifier-is_name (chars s) (subst (λ (l : Lexeme). HasTokenForm l (chars s)) c.in-Identifier.is c.requires.spelled)

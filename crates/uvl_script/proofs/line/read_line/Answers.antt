@@ -9,7 +9,7 @@ use Rattle.uvl_script.proofs.line.read_line.Goals as goal
 answered : (c : goal.After-read_words) → IsAnswered (reading_of c.args.line.now) c.read_words.result
 answered c =
     let P : Result (Option Command) LineFault → Type 0 = λ reading. IsAnswered reading c.read_words.result in
-    subst P (sym (reading_is c.args.line.now c.without_cr-line.result.now c.without_cr-line.ensures c.if-line-gt-MOST_LINE_BYTES.false)) c.read_words.ensures
+    subst P (sym (reading_is c.args.line.now c.without_cr-bare.result.now c.without_cr-bare.ensures c.if-bare-gt-MOST_LINE_BYTES.false)) c.read_words.ensures
 
 pub returns-clause-answer : goal.returns-clause-answer
 returns-clause-answer c = answer_is _ _ (answered c)

@@ -5,7 +5,8 @@ use Rattle.std.proofs.lemmas.Str.{encodes-chars}
 use Rattle.uvl_lexer.specs.declared.piece.Lexeme.{Lexeme}
 use Rattle.uvl_base.specs.Number.{is_number}
 use Rattle.uvl_lexer.specs.Layout.{refusal_of, refusal_of_number}
-use Rattle.uvl_lexer.specs.Spellings.{IsSpelling}
+use Rattle.uvl_lexer.specs.Forms.{HasTokenForm}
+use Rattle.uvl_lexer.proofs.Numbers.{number-is_number}
 use Rattle.uvl_lexer.proofs.reader.Reader.refusal_of.Goals as goal
 
 pub returns-in-Number : goal.returns-in-Number
@@ -18,4 +19,4 @@ returns-in-Number c =
 pub refusal_of_number-requires : goal.refusal_of_number-requires
 refusal_of_number-requires c =
     let s = c.args.spelling.now in
-    subst (λ (b : List ℕ). is_number b ≡ true) (encodes-chars s c.utf8.spelling) (subst (λ (l : Lexeme). IsSpelling l (chars s)) c.in-Number.is c.requires)
+    subst (λ (b : List ℕ). is_number b ≡ true) (encodes-chars s c.utf8.spelling) (number-is_number (chars s) (subst (λ (l : Lexeme). HasTokenForm l (chars s)) c.in-Number.is c.requires))

@@ -1,12 +1,15 @@
 -- How a script is read on, and how each end of it is reached.
-use Rattle.std.proofs.Common.{◌≡◌, ◌+◌, ℕ, length, take, sym, subst, ◌∙◌, arith}
+use Rattle.std.proofs.Common.{◌≡◌, ◌+◌, ℕ, length, take, refl, sym, subst, ◌∙◌, arith}
 use Rattle.std.proofs.lemmas.List.{length-take, length-take-le}
 use Rattle.uvl_model.specs.Rows.{Rows}
 use Rattle.uvl_model.specs.Spelling.{Spells}
 use Rattle.uvl_run.specs.Script.{most_script_bytes}
 use Rattle.uvl_run.proofs.Told.{nothing_left}
-use Rattle.uvl_run.proofs.SoFar.{SoFar, goes_on, write_fault, at_end, at_limit}
+use Rattle.uvl_run.proofs.SoFar.{SoFar, starts, goes_on, write_fault, at_end, at_limit}
 use Rattle.uvl_run.proofs.script.Script.read.Goals as goal
+
+pub loop-count-init : goal.loop-count-init
+loop-count-init g c = record { same_model = refl; within = omega arith; same_input_count = refl; same_out_count = refl; so_far = starts _ _ _ _ c.requires.fresh }
 
 pub returns-in-Ok-eq0-clause-script : goal.returns-in-Ok-eq0-clause-script
 returns-in-Ok-eq0-clause-script g c = λ tree spells.

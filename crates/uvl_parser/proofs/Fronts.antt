@@ -1,0 +1,17 @@
+-- The tokens in front of a place, the nearest first.
+use Rattle.std.specs.Prelude.{◌≡◌, ℕ, ◌+◌, ◌<◌, List, [], ◌∷◌, ◌++◌, length, reverse, take}
+use Rattle.std.proofs.Common.{sym, ap, ◌∙◌, get_or}
+use Rattle.std.proofs.lemmas.List.{reverse-append, take_more}
+use Rattle.uvl_lexer.specs.declared.token.Token.{Token}
+use Rattle.uvl_parser.specs.Named.{in_front}
+
+-- the last of a list is the first of it turned round
+pub reverse_last : {A : Type 0} (xs rest : List A) (x : A) → xs ≡ rest ++ x ∷ [] → reverse xs ≡ x ∷ reverse rest
+reverse_last xs rest x e = ap reverse e ∙ reverse-append rest (x ∷ [])
+
+-- a token more
+pub in_front_more : (tokens : List Token) (k : ℕ) (t : Token) → k < length tokens → t ≡ get_or tokens k t
+    → in_front (k + 1) tokens ≡ t ∷ in_front k tokens
+in_front_more tokens k t within is =
+    reverse_last (take (k + 1) tokens) (take k tokens) t
+    (take_more tokens k t within ∙ ap (λ u. take k tokens ++ u ∷ []) (sym is))

@@ -1,0 +1,79 @@
+-- Features of a file without named faults nest at most 64 levels deep.
+use Rattle.std.specs.Prelude.{◌≡◌, ℕ, zero, suc, ◌+◌, ◌≤◌, ◌<◌, Bool, true, false, List, [], ◌∷◌, ◌++◌, length, reverse, take, drop, slice_get, Option, Some, None, MatchOption}
+use Rattle.std.proofs.Common.{refl, sym, ap, subst, ◌∙◌, arith, append_assoc, get_or}
+use Rattle.std.proofs.lemmas.List.{reverse-append, take-append-drop}
+use Rattle.std.proofs.Math.Seq.{take-append_seam, drop-append_seam}
+use Rattle.uvl_base.specs.declared.fault.FaultKind.TheVariants.{TooDeep}
+use Rattle.uvl_lexer.specs.declared.token.Token.{Token}
+use Rattle.uvl_lexer.specs.declared.token.Word.TheVariants as word
+use Rattle.uvl_ast.specs.declared.feature.Feature.{Feature}
+use Rattle.uvl_ast.specs.declared.file.File.{File}
+use Rattle.uvl_parser.specs.declared.named.section.Section.TheVariants.{Include, Imports, Features}
+use Rattle.uvl_parser.specs.Features.{FeatureWithin}
+use Rattle.uvl_parser.specs.Sections.{SpellsLevel, SpellsImport, SpellsFeatures, No_features, Root}
+use Rattle.uvl_parser.specs.File.{Spells, A_file}
+use Rattle.uvl_parser.specs.Dead.{Dead}
+use Rattle.uvl_parser.specs.Named.{in_front, Named, Where_alive, Deep, NoneNamed}
+use Rattle.uvl_parser.proofs.Walking.{walk, walk_append, Clear, clear_front, clear_back}
+use Rattle.uvl_parser.proofs.Depths.{deep, feature_passes}
+use Rattle.uvl_parser.proofs.Sectioned.{Between, body_begins, level_kept, import_kept, section_passed, namespace_passed}
+
+-- ---- a spelled list has no dead token
+
+-- no token of a list that spells a file is dead
+pub spelled_alive : (tokens : List Token) (file : File) (k : ℕ) → Spells tokens file → Dead tokens k → ⊥
+spelled_alive tokens file k spelled dead =
+    dead (drop (k + 1) tokens) file (subst (λ ts. Spells ts file) (sym (take-append-drop (k + 1) tokens)) spelled)
+
+-- ---- where nothing is named, no feature is too deep
+
+-- the token behind a front
+token_behind : (front : List Token) (t : Token) (rest : List Token) → slice_get (front ++ t ∷ rest) (length front) ≡ Some t
+token_behind [] t rest = refl
+token_behind (u ∷ front) t rest = token_behind front t rest
+
+module _ (tokens : List Token) (file : File) (spelled : Spells tokens file) (none : (k : ℕ) → NoneNamed tokens k) where
+  not_deep : (front : List Token) (t : Token) (rest : List Token) → tokens ≡ front ++ t ∷ rest → (b : Bool) → deep (reverse front) t ≡ b → b ≡ false
+  not_deep front t rest joins false is = refl
+  not_deep front t rest joins true is =
+      let k = length front in
+      let here : slice_get tokens k ≡ Some t = ap (λ ts. slice_get ts k) joins ∙ token_behind front t rest in
+      let before : in_front k tokens ≡ reverse front = ap reverse (ap (take k) joins ∙ take-append_seam front (t ∷ rest)) in
+      let met = ap (λ b. deep b t) before ∙ is in
+      absurd (none k TooDeep (Where_alive t here (Deep met) (spelled_alive tokens file k spelled)))
+
+  clear_from : (front rest : List Token) → tokens ≡ front ++ rest → Clear deep (reverse front) rest
+  clear_from front [] joins = tt
+  clear_from front (t ∷ rest) joins =
+      let more : tokens ≡ (front ++ t ∷ []) ++ rest = joins ∙ sym (append_assoc front (t ∷ []) rest) in (
+        not_deep front t rest joins (deep (reverse front) t) refl,
+        subst (λ b. Clear deep b rest) (reverse-append front (t ∷ [])) (clear_from (front ++ t ∷ []) rest more),
+      )
+
+  all_clear : Clear deep [] tokens
+  all_clear = clear_from [] tokens refl
+
+-- ---- the root
+
+-- a root has at most 64 levels
+abbrev pub IsShallow : Option Feature → Type 0
+IsShallow None = Unit {0}
+IsShallow (Some root) = (xs : List Token) × FeatureWithin 64 xs root
+
+root_shallow : (before fs : List Token) (root : Option Feature) → Between before → Clear deep before fs → SpellsFeatures fs root → IsShallow root
+root_shallow before fs root between clear No_features = tt
+root_shallow before fs root between clear (Root t newline indent dedent {xs} is ends opens tree closes) =
+    let inner = body_begins before t word.Features Features is refl between newline indent ends opens in
+    let clear_tree = (clear_front deep before (t ∷ newline ∷ indent ∷ xs) (dedent ∷ []) clear).1.1.1 in
+    (xs, (feature_passes tree.0 64 1 1 refl refl (indent ∷ newline ∷ t ∷ before) xs _ inner clear_tree tree.1).0)
+
+pub file_shallow : (tokens : List Token) (file : File) → Spells tokens file → ((k : ℕ) → NoneNamed tokens k) → IsShallow file.root
+file_shallow tokens file (A_file {ns} {ls} {ms} {fs} {rs} finish {root} named included imported tree ruled is) none =
+    let all = all_clear tokens file (A_file finish named included imported tree ruled is) none in
+    let front = ns ++ ls ++ ms in
+    let clear_fs = clear_back deep [] front fs (clear_front deep [] (front ++ fs) rs (clear_front deep [] (front ++ fs ++ rs) (finish ∷ []) all)) in
+    let after_namespace = namespace_passed ns _ named in
+    let after_include = section_passed word.Include Include refl SpellsLevel (level_kept Include) (walk [] ns) ls _ after_namespace included in
+    let after_imports = section_passed word.Imports Imports refl SpellsImport (import_kept Imports) (walk (walk [] ns) ls) ms _ after_include imported in
+    let here = walk_append [] (ns ++ ls) ms ∙ ap (λ b. walk b ms) (walk_append [] ns ls) in
+    root_shallow (walk [] front) fs root (subst Between (sym here) after_imports) clear_fs tree

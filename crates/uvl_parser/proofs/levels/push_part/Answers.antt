@@ -1,8 +1,0 @@
-use Rattle.std.proofs.Common.{refl, ap, ◌∙◌}
-use Rattle.std.specs.Str.{chars}
-use Rattle.uvl_parser.proofs.LevelTexts.{appended, word_chars}
-use Rattle.uvl_parser.proofs.levels.push_part.Goals as goal
-
-pub returns-in_ok-push_text-in-Word : goal.returns-in_ok-push_text-in-Word
-returns-in_ok-push_text-in-Word c =
-    rw c.in-Word.is (refl, appended _ _ _ _ c.in_ok-push_text-in-Word.ensures (ap chars c.word_text.ensures ∙ word_chars c.in-Word.word))

@@ -1,0 +1,110 @@
+-- Thin files have thin rows, variables that are numbered in order stand in order, and a diagram tells products.
+use Rattle.std.proofs.Common.{◌≡◌, ℕ, zero, suc, ◌+◌, ◌<◌, Bool, true, false, not, List, [], ◌∷◌, ◌++◌, length, Some, None, ◌⊎◌, inl, inr, refl, sym, ap, ◌∙◌, subst, arith}
+use Rattle.std.specs.List.{All}
+use Rattle.std.proofs.lemmas.Bool.{false≢true, false_from_ne_true}
+use Rattle.std.proofs.lemmas.List.{length-map}
+use Rattle.dd_store.specs.Follow.{assignment_of}
+use Rattle.dd_store.specs.declared.row.Var.{Var}
+use Rattle.dd_store.specs.Order.{level_in}
+use Rattle.dd_store.specs.Table.{Table, value_of}
+use Rattle.uvl_model.specs.declared.rows.FeatureNo.{FeatureNo}
+use Rattle.uvl_model.specs.declared.rows.GroupRow.{GroupRow}
+use Rattle.uvl_model.specs.Laws.{RowsGiveNames, MarksGiveProducts, VoidTreesHaveNoProduct, MarksTellVoidTrees}
+use Rattle.uvl_model.specs.Marks.{StandFor}
+use Rattle.uvl_model.specs.Names.{marked}
+use Rattle.uvl_model.specs.Product.{is_product}
+use Rattle.uvl_model.specs.Rows.{Rows}
+use Rattle.uvl_model.specs.Sound.{IsSound}
+use Rattle.uvl_model.specs.Spelling.{Spells, size_of, size_of_members, member_numbers, group_rows, group_rows_of_groups, group_rows_of_members}
+use Rattle.uvl_model.specs.Tree.{Tree, Groups, Members, feature, no_groups, group, no_members, member, member_count, names_of}
+use Rattle.uvl_model.specs.Void.{is_void}
+use Rattle.uvl_compile.specs.Chosen.{chosen_under}
+use Rattle.uvl_compile.specs.Laws.{MarksChooseFeatures}
+use Rattle.uvl_compile.specs.Row.{IsAscending}
+use Rattle.uvl_compile.specs.Thin as rows
+use Rattle.uvl_run.specs.Compiled.{IsCompiled}
+use Rattle.uvl_run.specs.ThinFile.{IsThinFile, AreThin, AreLeaves}
+
+-- a group has a number for each member
+members_numbered : (n : ℕ) (members : Members) → length (member_numbers n members) ≡ member_count members
+members_numbered n no_members = refl
+members_numbered n (member tree others) = let later = members_numbered (n + size_of tree) others in omega arith
+
+-- leaves have no groups
+no_rows : (n : ℕ) (members : Members) → AreLeaves members → group_rows_of_members n members ≡ []
+no_rows n no_members leaves = refl
+no_rows n (member (feature name no_groups) others) leaves = no_rows (n + size_of (feature name no_groups)) others leaves.1
+no_rows n (member (feature name (group lo hi members more)) others) leaves = let none : group lo hi members more ≡ no_groups = leaves.0 in cc
+
+-- the rows of thin groups are thin
+thin_groups : (groups : Groups) (parent : FeatureNo) (n : ℕ) → AreThin groups → All rows.IsMandatoryOrOptional (group_rows_of_groups parent n groups)
+thin_groups no_groups parent n thin = λ k d within. absurd (omega arith)
+thin_groups (group lo hi members others) parent n thin =
+    let row : GroupRow = record { parent = parent; lo = lo; hi = hi; members = member_numbers n members } in
+    let count = members_numbered n members in
+    let bounds : rows.IsMandatoryOrOptional row = record { least = least thin.3 (sym thin.2 ∙ refl) count; most = thin.2 ∙ sym count } in
+    let none = no_rows n members thin.1 in
+    let later = thin_groups others parent (n + size_of_members members) thin.4 in
+    let P : List GroupRow → Type 0 = λ between. All rows.IsMandatoryOrOptional (row ∷ between ++ group_rows_of_groups parent (n + size_of_members members) others) in
+    subst P (sym none) (first row (group_rows_of_groups parent (n + size_of_members members) others) bounds later)
+  where
+    least : (lo ≡ 0) ⊎ (lo ≡ hi) → member_count members ≡ hi → length (member_numbers n members) ≡ member_count members → (lo ≡ length (member_numbers n members)) ⊎ (lo ≡ 0)
+    least (inl optional) most count = inr optional
+    least (inr mandatory) most count = inl (mandatory ∙ sym most ∙ sym count)
+
+    first : (row : GroupRow) (others' : List GroupRow) → rows.IsMandatoryOrOptional row → All rows.IsMandatoryOrOptional others' → All rows.IsMandatoryOrOptional (row ∷ others')
+    first row others' is all zero d within = is
+    first row others' is all (suc k) d within = all k d (omega arith)
+
+thin_tree : (tree : Tree) (bytes : List ℕ) → IsThinFile bytes tree → All rows.IsMandatoryOrOptional (group_rows 0 tree)
+thin_tree (feature name below) bytes file = thin_groups below _ 1 file.thin
+
+-- the rows of a thin file are thin
+pub thin_rows : (tree : Tree) (model : Rows) (bytes : List ℕ) → Spells tree model → IsThinFile bytes tree → rows.IsThin model
+thin_rows tree model bytes spelled file =
+    let P : List GroupRow → Type 0 = λ groups. All rows.IsMandatoryOrOptional groups in
+    subst P (sym spelled.groups) (thin_tree tree bytes file)
+
+-- a tree has as many features as its rows
+pub feature_count : RowsGiveNames → (tree : Tree) (model : Rows) → Spells tree model → length model.features ≡ size_of tree
+feature_count law tree model spelled = sym (length-map model.features (λ row. row.name)) ∙ ap length (law tree model spelled)
+
+-- variables whose levels are their numbers stand in the order of their numbers
+pub ascending : (order : List Var) (n : ℕ) → length order ≡ n → ((v : ℕ) → v < length order → level_in order v ≡ v) → IsAscending order n
+ascending order n count leveled = record {
+  there = λ v inside. (let level = leveled v (omega arith) in omega arith);
+  ascending = λ v w before inside. (let first = leveled v (omega arith) in let second = leveled w (omega arith) in omega arith);
+}
+
+module _ (model : Rows) (t : Table) (products : ℕ) (compiled : IsCompiled model t products) (choose : MarksChooseFeatures) where
+  -- the value under marks is whether what they mark is a product
+  value_of_marks : (tree : Tree) (marks : List Bool) → Spells tree model → value_of t products (assignment_of marks) ≡ is_product tree (marked (names_of tree) marks)
+  value_of_marks tree marks spelled = compiled.value tree (assignment_of marks) spelled ∙ ap (is_product tree) (choose tree marks)
+
+  -- and so it is whether a set is one for which the marks stand
+  pub value_of_set : MarksGiveProducts → IsSound model → (tree : Tree) (set : List (List ℕ)) (marks : List Bool) → Spells tree model → StandFor (names_of tree) marks set
+      → value_of t products (assignment_of marks) ≡ is_product tree set
+  value_of_set law sound tree set marks spelled stand = value_of_marks tree marks spelled ∙ law tree model marks set sound spelled stand
+
+  -- a diagram that is no for all assignments is that of a void tree
+  pub void-always_no : MarksTellVoidTrees → ((a : ℕ → Bool) → value_of t products a ≡ false) → (tree : Tree) → Spells tree model → true ≡ is_void tree
+  void-always_no law none tree spelled = sym (law tree (λ marks. sym (value_of_marks tree marks spelled) ∙ none (assignment_of marks)))
+
+  -- and a void tree has no other
+  pub always_no-void : VoidTreesHaveNoProduct → (tree : Tree) → Spells tree model → is_void tree ≡ true → (a : ℕ → Bool) → value_of t products a ≡ false
+  always_no-void law tree spelled void a = compiled.value tree a spelled ∙ (law tree).0 void (chosen_under a tree)
+
+  -- a diagram that is yes for some assignment is that of a tree with a product
+  pub not_void-yes : VoidTreesHaveNoProduct → (a : ℕ → Bool) → value_of t products a ≡ true → (tree : Tree) → Spells tree model → false ≡ is_void tree
+  not_void-yes law a is tree spelled =
+      sym (false_from_ne_true _ (λ void. false≢true (sym (always_no-void law tree spelled void a) ∙ is)))
+
+  -- and so is one that isn't constant
+  pub not_void-none : VoidTreesHaveNoProduct → ((b : Bool) → ((a : ℕ → Bool) → value_of t products a ≡ b) → None ≡ Some b) → (tree : Tree) → Spells tree model → false ≡ is_void tree
+  not_void-none law exact tree spelled =
+      sym (false_from_ne_true _ (λ void. let none : None ≡ Some false = exact false (always_no-void law tree spelled void) in cc))
+
+  -- a constant diagram is that of a void tree where it is no
+  pub void-constant : MarksTellVoidTrees → VoidTreesHaveNoProduct → (value : Bool) → ((a : ℕ → Bool) → value_of t products a ≡ value) → (tree : Tree) → Spells tree model → not value ≡ is_void tree
+  void-constant marks law true each tree spelled = not_void-yes law (λ v. false) (each (λ v. false)) tree spelled
+  void-constant marks law false each tree spelled = void-always_no marks each tree spelled
