@@ -15,7 +15,7 @@ use Rattle.uvl_parser.specs.Tests.{is_word}
 use Rattle.uvl_parser.specs.Tokens.{name_of, IsNewline, IsIndent, IsDedent}
 use Rattle.uvl_parser.specs.Shapes.{Spelling, OneOrMore, Body, No_body, Indented}
 use Rattle.uvl_parser.specs.Refs.{SpellsRef, Reference}
-use Rattle.uvl_parser.specs.Braces.{Entry, SpellsBraces}
+use Rattle.uvl_parser.specs.Braces.{SpellsBraces}
 use Rattle.uvl_parser.specs.Groups.{GroupFront, SpellsKind}
 use Rattle.uvl_parser.specs.Features.{SpellsBoolean, Not_said, Said, SpellsGroup, Members, SpellsFeature, Line, FeatureWithin}
 use Rattle.uvl_parser.specs.Named.Lines.{is_line_mark, begins_line}

@@ -30,7 +30,7 @@ use Rattle.uvl_parser.specs.File.{Spells, A_file}
 
 -- ---- lists without a Finish token
 
-abbrev NoFinish : List Token → Type 0
+abbrev pub NoFinish : List Token → Type 0
 NoFinish [] = Unit {0}
 NoFinish (t ∷ ts) = (t.kind ≡ token.Finish → ⊥) × NoFinish ts
 
@@ -252,7 +252,7 @@ rule xs v (sections.Rule {xs = us} newline r ends) = both us (newline ∷ []) (e
 -- ---- files
 
 -- behind tokens without a Finish and one more there is nothing behind a Finish
-only_last : (front : List Token) → NoFinish front → (last : Token) (xs : List Token) (t : Token) (more : List Token)
+pub only_last : (front : List Token) → NoFinish front → (last : Token) (xs : List Token) (t : Token) (more : List Token)
     → front ++ last ∷ [] ≡ xs ++ t ∷ more → t.kind ≡ token.Finish → more ≡ []
 only_last [] h last [] t more e is = sym (ap rest_of e)
   where

@@ -1,0 +1,277 @@
+-- What reading a list of tokens tells of it: the file that it spells, or its first dead token.
+use Rattle.std.specs.Prelude.{◌≡◌, ◌⊎◌, ℕ, zero, suc, ◌+◌, ◌-◌, ◌≤◌, ◌<◌, List, [], ◌∷◌, ◌++◌, length, take, drop, slice_get, Ok, Err, Option, Some, None, MatchOption}
+use Rattle.std.specs.Option.{unwrap_or}
+use Rattle.std.proofs.Common.{refl, sym, ap, subst, ◌∙◌, inl, inr, arith, append_assoc, append-nil, length-append}
+use Rattle.std.proofs.lemmas.List.{take-append-drop, take-append-le, length-take}
+use Rattle.std.proofs.Math.Seq.{take-append_seam, take-append-add}
+use Rattle.uvl_base.specs.declared.place.Place.{Place}
+use Rattle.uvl_base.specs.declared.fault.FaultKind.{FaultKind}
+use Rattle.uvl_base.specs.declared.fault.FaultKind.TheVariants.{Syntax}
+use Rattle.uvl_lexer.specs.declared.token.Token.{Token}
+use Rattle.uvl_lexer.specs.declared.token.TokenKind.TheVariants as token
+use Rattle.uvl_lexer.specs.TokenList.{IsTokenList, AreInner, IsInner}
+use Rattle.uvl_ast.specs.declared.file.File.{File}
+use Rattle.uvl_parser.specs.declared.named.candidate.Candidate.{Candidate}
+use Rattle.uvl_parser.specs.File.{Spells, A_file}
+use Rattle.uvl_parser.specs.Dead.{Dead}
+use Rattle.uvl_parser.specs.Named.{NoneNamed, LowestNamed, IsFirstNamed}
+use Rattle.uvl_parser.specs.Parsing.{IsParsedAs, IsSyntax, IsRefusedAt}
+use Rattle.uvl_parser.specs.Reading.{Read}
+use Rattle.uvl_parser.specs.Readers.File.{file}
+use Rattle.uvl_parser.proofs.Readers.{Good, Outcome, ReadsOn, StopsAt, SameHead}
+use Rattle.uvl_parser.proofs.Completing.{Complete, Anything}
+use Rattle.uvl_parser.proofs.Parts.File.{file_good, file_complete}
+use Rattle.uvl_parser.proofs.Parts.Endings.{NoFinish, only_last, finish_last}
+use Rattle.uvl_parser.proofs.Shallow.{spelled_alive}
+
+-- ---- what is spelled is read, and what is read is spelled
+
+pub reads : (xs : List Token) (f : File) (rest : List Token) → Spells xs f → file (xs ++ rest) ≡ Ok (f, rest)
+reads xs f rest spelled =
+    let complete : Complete (λ m. file) Spells Anything 0 = file_complete in
+    complete.reads 0 (omega arith) xs f rest spelled tt
+
+pub reads_all : (xs : List Token) (f : File) → Spells xs f → file xs ≡ Ok (f, [])
+reads_all xs f spelled = ap file (sym (append-nil xs)) ∙ reads xs f [] spelled
+
+abbrev Stops : List Token → ℕ → Type 0
+Stops ts left = StopsAt (λ m. file) Spells 0 ts left
+
+abbrev Reads : List Token → File → List Token → Type 0
+Reads ts f rest = ReadsOn (λ m. file) Spells 0 ts f rest
+
+outcome : (ts : List Token) (r : Read File) → file ts ≡ r → Outcome (λ m. file) Spells 0 ts r
+outcome ts r is =
+    let good : Good (λ m. file) Spells 0 (suc (length ts)) = file_good in
+    subst (λ r. Outcome (λ m. file) Spells 0 ts r) is (good.at ts (omega arith))
+
+-- ---- where reading stops
+
+-- the token at which reading stops is dead
+stopped_dead : (ts : List Token) (left : ℕ) (o : Stops ts left) (t : Token) (behind : List Token) → o.rest ≡ t ∷ behind → Dead ts (length o.front)
+stopped_dead ts left o t behind rest others f spelled =
+    let front : take (length o.front + 1) ts ≡ o.front ++ t ∷ [] =
+    ap (take (length o.front + 1)) (o.splits ∙ ap (λ z. o.front ++ z) rest) ∙ take-append-add o.front (t ∷ behind) 1 in
+    let joins : take (length o.front + 1) ts ++ others ≡ o.front ++ t ∷ others = ap (λ z. z ++ others) front ∙ append_assoc o.front (t ∷ []) others in
+    let read = reads_all (o.front ++ t ∷ others) f (subst (λ z. Spells z f) joins spelled) in
+    let same : SameHead o.rest (t ∷ others) = subst (λ z. SameHead z (t ∷ others)) (sym rest) refl in
+    let stops = o.again 0 (omega arith) (t ∷ others) same in
+    cc
+
+-- none in front of it is
+stopped_alive : (ts : List Token) (left : ℕ) (o : Stops ts left) (j : ℕ) → j < length o.front → Dead ts j → ⊥
+stopped_alive ts left o j before dead =
+    let within : j + 1 ≤ length o.front = omega arith in
+    let joins : o.front ++ o.more ≡ take (j + 1) ts ++ (drop (j + 1) o.front ++ o.more) =
+    ap (λ z. z ++ o.more) (sym (take-append-drop (j + 1) o.front))
+    ∙ append_assoc (take (j + 1) o.front) (drop (j + 1) o.front) o.more
+    ∙ ap (λ z. z ++ (drop (j + 1) o.front ++ o.more)) (sym (ap (take (j + 1)) o.splits ∙ take-append-le (j + 1) o.front o.rest within)) in
+    dead (drop (j + 1) o.front ++ o.more) o.value (subst (λ z. Spells z o.value) joins o.completed)
+
+-- ---- a list of tokens ends with its Finish
+
+no_finish : (ts : List Token) → AreInner ts → NoFinish ts
+no_finish [] inner = tt
+no_finish (t ∷ ts) inner = ((λ is. subst IsInner is inner.0), no_finish ts inner.1)
+
+-- a file ends with its Finish
+record EndsFile (tokens : List Token) : Type 0 where
+  front : List Token
+  finish : Token
+  joins : tokens ≡ front ++ finish ∷ []
+  is : finish.kind ≡ token.Finish
+
+ends_file : (tokens : List Token) (f : File) → Spells tokens f → EndsFile tokens
+ends_file tokens f (A_file {ns} {ls} {ms} {fs} {rs} finish named included imported tree ruled is) =
+    record { front = ns ++ ls ++ ms ++ fs ++ rs; finish = finish; joins = refl; is = is }
+
+-- so nothing is behind a file in it
+nothing_behind : (ts : List Token) → IsTokenList ts → (xs rest : List Token) (f : File) → ts ≡ xs ++ rest → Spells xs f → rest ≡ []
+nothing_behind ts list xs rest f splits spelled =
+    let ends = ends_file xs f spelled in
+    let joins : list.front ++ list.end ∷ [] ≡ ends.front ++ ends.finish ∷ rest =
+    sym list.joined ∙ splits ∙ ap (λ z. z ++ rest) ends.joins ∙ append_assoc ends.front (ends.finish ∷ []) rest in
+    only_last list.front (no_finish list.front list.inner) list.end ends.front ends.finish rest joins ends.is
+
+-- and reading it never runs out of tokens
+never_out : (ts : List Token) → IsTokenList ts → (left : ℕ) → file ts ≡ Err left → (o : Stops ts left) → o.rest ≡ [] → ⊥
+never_out ts list left stuck o rest =
+    let whole : ts ≡ o.front = o.splits ∙ ap (λ z. o.front ++ z) rest ∙ append-nil o.front in
+    let joins : o.front ++ o.more ≡ list.front ++ list.end ∷ o.more =
+    ap (λ z. z ++ o.more) (sym whole ∙ list.joined) ∙ append_assoc list.front (list.end ∷ []) o.more in
+    let none = finish_last list.front list.end o.more o.value (subst (λ z. Spells z o.value) joins o.completed) list.finish in
+    let spelled : Spells ts o.value =
+    subst (λ z. Spells z o.value) (ap (λ z. o.front ++ z) none ∙ append-nil o.front ∙ sym whole) o.completed in
+    let read = reads_all ts o.value spelled in
+    cc
+
+-- ---- the first fault
+
+-- the k-th token is the first with a named fault or the first dead one, and this is what is wrong there
+pub record IsFaultAt (tokens : List Token) (k : ℕ) (kind : FaultKind) : Type 0 where
+  pub within : k < length tokens
+  pub unnamed_before : (j : ℕ) → j < k → NoneNamed tokens j
+  pub alive_before : (j : ℕ) → j < k → Dead tokens j → ⊥
+  pub cause : LowestNamed tokens k kind ⊎ IsSyntax tokens k kind
+
+pub refused_there : (tokens : List Token) (k : ℕ) (kind : FaultKind) (t : Token) → slice_get tokens k ≡ Some t → IsFaultAt tokens k kind
+    → IsRefusedAt tokens t.place kind
+refused_there tokens k kind t here fault = record {
+  k = k;
+  token = t;
+  at = here;
+  stands = refl;
+  unnamed_before = fault.unnamed_before;
+  alive_before = fault.alive_before;
+  cause = fault.cause;
+}
+
+-- ---- where nothing is named
+
+module _ (ts : List Token) (list : IsTokenList ts) (unnamed : (k : ℕ) → NoneNamed ts k) where
+  pub all_read : (f : File) (rest : List Token) → file ts ≡ Ok (f, rest) → IsParsedAs ts f
+  all_read f rest is =
+      let o : Reads ts f rest = outcome ts (Ok (f, rest)) is in
+      let none = nothing_behind ts list o.front rest f o.splits o.spelled in
+      let whole : ts ≡ o.front = o.splits ∙ ap (λ z. o.front ++ z) none ∙ append-nil o.front in
+      record { spelled = subst (λ z. Spells z f) (sym whole) o.spelled; unnamed = unnamed }
+
+  stopped_at : (left : ℕ) → file ts ≡ Err left → (o : Stops ts left) (rest : List Token) → o.rest ≡ rest
+      → (1 ≤ left) × (left ≤ length ts) × IsFaultAt ts (length ts - left) Syntax
+  stopped_at left stuck o [] is = absurd (never_out ts list left stuck o is)
+  stopped_at left stuck o (t ∷ behind) is =
+      let count : left ≡ suc (length behind) = o.count ∙ ap length is in
+      let total : length ts ≡ length o.front + left = ap length o.splits ∙ length-append o.front o.rest ∙ ap (λ n. length o.front + n) (sym o.count) in
+      let k : length o.front ≡ length ts - left = omega arith in
+      let fault : IsFaultAt ts (length o.front) Syntax = record {
+        within = omega arith;
+        unnamed_before = λ j before. unnamed j;
+        alive_before = λ j before. stopped_alive ts left o j before;
+        cause = inr (record { dead = stopped_dead ts left o t behind is; unnamed = unnamed (length o.front); syntax = refl });
+      } in
+      (omega arith, omega arith, subst (λ n. IsFaultAt ts n Syntax) k fault)
+
+  pub all_stuck : (left : ℕ) → file ts ≡ Err left → (1 ≤ left) × (left ≤ length ts) × IsFaultAt ts (length ts - left) Syntax
+  all_stuck left stuck = let o : Stops ts left = outcome ts (Err left) stuck in stopped_at left stuck o o.rest refl
+
+-- ---- up to the first named fault, or what would be one
+
+-- the tokens up to and with it say as much of those in front of it as all tokens do
+same_front : (ts : List Token) (n j : ℕ) → j < n → n ≤ length ts → take (j + 1) (take n ts) ≡ take (j + 1) ts
+same_front ts n j before within =
+    let joins : ts ≡ take n ts ++ drop n ts = sym (take-append-drop n ts) in
+    let some : j + 1 ≤ length (take n ts) = omega (arith, length-take n ts) in
+    sym (ap (take (j + 1)) joins ∙ take-append-le (j + 1) (take n ts) (drop n ts) some)
+
+same_dead : (ts : List Token) (n j : ℕ) → j < n → n ≤ length ts → Dead ts j → Dead (take n ts) j
+same_dead ts n j before within dead others f spelled =
+    dead others f (subst (λ z. Spells (z ++ others) f) (same_front ts n j before within) spelled)
+
+dead_same : (ts : List Token) (n j : ℕ) → j < n → n ≤ length ts → Dead (take n ts) j → Dead ts j
+dead_same ts n j before within dead others f spelled =
+    dead others f (subst (λ z. Spells (z ++ others) f) (sym (same_front ts n j before within)) spelled)
+
+module _ (ts : List Token) (list : IsTokenList ts) (c : Candidate) (first : IsFirstNamed ts c) where
+  abbrev upto : List Token
+  upto = take (c.index + 1) ts
+
+  upto_length : length upto ≡ c.index + 1
+  upto_length = omega (arith, length-take (c.index + 1) ts, first.within)
+
+  -- where it can stand there
+  alive_fault : ((j : ℕ) → j < c.index → Dead ts j → ⊥) → (Dead ts c.index → ⊥) → IsFaultAt ts c.index c.alive
+  alive_fault before here = record {
+    within = first.within;
+    unnamed_before = first.none_before;
+    alive_before = before;
+    cause = inl (first.alive here);
+  }
+
+  -- what can be completed has no dead token
+  completed_alive : (more : List Token) (f : File) → Spells (upto ++ more) f → (j : ℕ) → j < c.index + 1 → Dead ts j → ⊥
+  completed_alive more f spelled j before dead =
+      let within : j + 1 ≤ length upto = omega (arith, upto_length) in
+      let front : take (j + 1) (upto ++ more) ≡ take (j + 1) ts =
+      take-append-le (j + 1) upto more within ∙ same_front ts (c.index + 1) j before (omega (arith, first.within)) in
+      spelled_alive (upto ++ more) f j spelled (λ others g s. dead others g (subst (λ z. Spells (z ++ others) g) front s))
+
+  pub front_read : (f : File) (rest : List Token) → file upto ≡ Ok (f, rest) → IsFaultAt ts c.index c.alive
+  front_read f rest is =
+      let o : Reads upto f rest = outcome upto (Ok (f, rest)) is in
+      let joins : ts ≡ o.front ++ (rest ++ drop (c.index + 1) ts) =
+      sym (take-append-drop (c.index + 1) ts) ∙ ap (λ z. z ++ drop (c.index + 1) ts) o.splits ∙ append_assoc o.front rest (drop (c.index + 1) ts) in
+      let none = nothing_behind ts list o.front (rest ++ drop (c.index + 1) ts) f joins o.spelled in
+      let whole : Spells ts f = subst (λ z. Spells z f) (sym (joins ∙ ap (λ z. o.front ++ z) none ∙ append-nil o.front)) o.spelled in
+      alive_fault (λ j before. spelled_alive ts f j whole) (spelled_alive ts f c.index whole)
+
+  -- all was read, and a file may follow
+  out_of_tokens : (left : ℕ) (o : Stops upto left) → o.rest ≡ [] → IsFaultAt ts c.index c.alive
+  out_of_tokens left o is =
+      let whole : o.front ≡ upto = sym (o.splits ∙ ap (λ z. o.front ++ z) is ∙ append-nil o.front) in
+      let spelled = subst (λ z. Spells (z ++ o.more) o.value) whole o.completed in
+      alive_fault (λ j before. completed_alive o.more o.value spelled j (omega arith)) (completed_alive o.more o.value spelled c.index (omega arith))
+
+  -- it is dead itself
+  dead_fault : (d : Option FaultKind) → MatchOption d (NoneNamed ts c.index) (LowestNamed ts c.index) → ((j : ℕ) → j < c.index → Dead ts j → ⊥)
+      → Dead ts c.index → IsFaultAt ts c.index (unwrap_or d Syntax)
+  dead_fault None none before dead = record {
+    within = first.within;
+    unnamed_before = first.none_before;
+    alive_before = before;
+    cause = inr (record { dead = dead; unnamed = none; syntax = refl });
+  }
+  dead_fault (Some kind) lowest before dead = record {
+    within = first.within;
+    unnamed_before = first.none_before;
+    alive_before = before;
+    cause = inl lowest;
+  }
+
+  abbrev Stuck_there : ℕ → Type 0
+  Stuck_there left = (1 ≤ left) × (left ≤ c.index + 1) × ((j : ℕ) → j < c.index + 1 - left → Dead ts j → ⊥) × Dead ts (c.index + 1 - left)
+
+  stuck_there : (left : ℕ) (o : Stops upto left) (t : Token) (behind : List Token) → o.rest ≡ t ∷ behind → Stuck_there left
+  stuck_there left o t behind is =
+      let count : left ≡ suc (length behind) = o.count ∙ ap length is in
+      let total : c.index + 1 ≡ length o.front + left =
+      sym upto_length ∙ ap length o.splits ∙ length-append o.front o.rest ∙ ap (λ n. length o.front + n) (sym o.count) in
+      let k : length o.front ≡ c.index + 1 - left = omega arith in
+      let within : c.index + 1 ≤ length ts = omega (arith, first.within) in
+      let dead = dead_same ts (c.index + 1) (length o.front) (omega arith) within (stopped_dead upto left o t behind is) in
+      (
+        omega arith,
+        omega arith,
+        λ j before there. stopped_alive upto left o j (omega arith) (same_dead ts (c.index + 1) j (omega arith) within there),
+        subst (Dead ts) k dead,
+      )
+
+  pub all_taken : file upto ≡ Err 0 → IsFaultAt ts c.index c.alive
+  all_taken stuck = let o : Stops upto 0 = outcome upto (Err 0) stuck in at o o.rest refl
+    where
+    at : (o : Stops upto 0) (rest : List Token) → o.rest ≡ rest → IsFaultAt ts c.index c.alive
+    at o [] is = out_of_tokens 0 o is
+    at o (t ∷ behind) is = let none : 0 ≡ suc (length behind) = o.count ∙ ap length is in absurd (omega arith)
+
+  stuck_at : (left : ℕ) → 1 ≤ left → file upto ≡ Err left → Stuck_there left
+  stuck_at left some stuck = let o : Stops upto left = outcome upto (Err left) stuck in at o o.rest refl
+    where
+    at : (o : Stops upto left) (rest : List Token) → o.rest ≡ rest → Stuck_there left
+    at o [] is = let none : left ≡ 0 = o.count ∙ ap length is in absurd (omega arith)
+    at o (t ∷ behind) is = stuck_there left o t behind is
+
+  pub last_stuck : file upto ≡ Err 1 → IsFaultAt ts c.index (unwrap_or c.dead Syntax)
+  last_stuck stuck =
+      let there = stuck_at 1 (omega arith) stuck in
+      let same : c.index + 1 - 1 ≡ c.index = omega arith in
+      let dead = subst (Dead ts) same there.3 in
+      dead_fault c.dead (first.dead dead) (λ j before. there.2 j (omega arith)) dead
+
+  pub front_stuck : (left : ℕ) → 2 ≤ left → file upto ≡ Err left → (left ≤ c.index + 1) × IsFaultAt ts (c.index + 1 - left) Syntax
+  front_stuck left some stuck =
+      let there = stuck_at left (omega arith) stuck in
+      (there.1, record {
+        within = omega (arith, first.within, there.1);
+        unnamed_before = λ j before. first.none_before j (omega arith);
+        alive_before = there.2;
+        cause = inr (record { dead = there.3; unnamed = first.none_before (c.index + 1 - left) (omega (arith, there.1)); syntax = refl });
+      })
