@@ -10,6 +10,8 @@ pub mod Depths
 pub mod Sectioned
 pub mod Shallow
 pub mod Parsed
+pub mod Once
+pub mod Answers
 pub mod Readers
 pub mod Completing
 pub mod Opened

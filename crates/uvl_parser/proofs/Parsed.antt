@@ -15,7 +15,7 @@ use Rattle.uvl_parser.specs.declared.named.candidate.Candidate.{Candidate}
 use Rattle.uvl_parser.specs.File.{Spells, A_file}
 use Rattle.uvl_parser.specs.Dead.{Dead}
 use Rattle.uvl_parser.specs.Named.{NoneNamed, LowestNamed, IsFirstNamed}
-use Rattle.uvl_parser.specs.Parsing.{IsParsedAs, IsSyntax, IsRefusedAt}
+use Rattle.uvl_parser.specs.Parsing.{IsParsedAs, IsSyntax, IsFaultAt, IsRefusedAt}
 use Rattle.uvl_parser.specs.Reading.{Read}
 use Rattle.uvl_parser.specs.Readers.File.{file}
 use Rattle.uvl_parser.proofs.Readers.{Good, Outcome, ReadsOn, StopsAt, SameHead}
@@ -107,13 +107,6 @@ never_out ts list left stuck o rest =
 
 -- ---- the first fault
 
--- the k-th token is the first with a named fault or the first dead one, and this is what is wrong there
-pub record IsFaultAt (tokens : List Token) (k : ℕ) (kind : FaultKind) : Type 0 where
-  pub within : k < length tokens
-  pub unnamed_before : (j : ℕ) → j < k → NoneNamed tokens j
-  pub alive_before : (j : ℕ) → j < k → Dead tokens j → ⊥
-  pub cause : LowestNamed tokens k kind ⊎ IsSyntax tokens k kind
-
 pub refused_there : (tokens : List Token) (k : ℕ) (kind : FaultKind) (t : Token) → slice_get tokens k ≡ Some t → IsFaultAt tokens k kind
     → IsRefusedAt tokens t.place kind
 refused_there tokens k kind t here fault = record {
@@ -121,9 +114,7 @@ refused_there tokens k kind t here fault = record {
   token = t;
   at = here;
   stands = refl;
-  unnamed_before = fault.unnamed_before;
-  alive_before = fault.alive_before;
-  cause = fault.cause;
+  fault = fault;
 }
 
 -- ---- where nothing is named

@@ -1,5 +1,5 @@
 -- What a list of tokens is parsed as: the file that it spells, or its first fault.
-use Rattle.std.specs.Prelude.{◌≡◌, ⊤, ◌⊎◌, ℕ, ◌<◌, List, slice_get, Some}
+use Rattle.std.specs.Prelude.{◌≡◌, ⊤, ◌⊎◌, ℕ, ◌<◌, List, length, slice_get, Some}
 use Rattle.uvl_base.specs.declared.place.Place.{Place}
 use Rattle.uvl_base.specs.declared.fault.FaultKind.{FaultKind}
 use Rattle.uvl_base.specs.declared.fault.FaultKind.TheVariants.{Syntax}
@@ -23,6 +23,13 @@ pub record IsSyntax (tokens : List Token) (k : ℕ) (kind : FaultKind) : Type 0 
   pub unnamed : NoneNamed tokens k
   pub syntax : kind ≡ Syntax
 
+-- the k-th token is the first at which a named fault is met or which is dead, and this is what is wrong there
+pub record IsFaultAt (tokens : List Token) (k : ℕ) (kind : FaultKind) : Type 0 where
+  pub within : k < length tokens
+  pub unnamed_before : (j : ℕ) → j < k → NoneNamed tokens j
+  pub alive_before : (j : ℕ) → j < k → Dead tokens j → ⊥
+  pub cause : LowestNamed tokens k kind ⊎ IsSyntax tokens k kind
+
 -- The tokens are refused at the first of them at which a named fault is met or which is dead: for the named
 -- fault with the lowest number that is met there, and for Syntax where none is.
 pub record IsRefusedAt (tokens : List Token) (place : Place) (kind : FaultKind) : Type 0 where
@@ -30,9 +37,7 @@ pub record IsRefusedAt (tokens : List Token) (place : Place) (kind : FaultKind) 
   pub token : Token
   pub at : slice_get tokens k ≡ Some token
   pub stands : place ≡ token.place
-  pub unnamed_before : (j : ℕ) → j < k → NoneNamed tokens j
-  pub alive_before : (j : ℕ) → j < k → Dead tokens j → ⊥
-  pub cause : LowestNamed tokens k kind ⊎ IsSyntax tokens k kind
+  pub fault : IsFaultAt tokens k kind
 
 -- what holds of the place and the kind of a fault; want of memory has neither
 abbrev pub OnFault : ParseFault → (Place → FaultKind → Type 0) → Type 0

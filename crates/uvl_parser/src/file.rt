@@ -1,0 +1,36 @@
+//! Whole files: `file = namespace? include? imports? features? constraints? Finish`.
+ghost use Rattle.std.specs.Prelude.{◌≡◌, Ok, Err};
+ghost use Rattle.uvl_parser.specs.Reading.{Gives};
+ghost use Rattle.uvl_parser.specs.Readers.File.{file};
+
+use crate::include_lines::levels;
+use crate::reading::Stop;
+use crate::sections::{constraints, features, imports, namespace};
+use crate::tokens::finish;
+use std::alloc::Global;
+use uvl_ast::File;
+use uvl_lexer::Token;
+
+/// Reads a file.
+#[tactic(auto, unfolding(crate::specs::Readers::File::file, crate::specs::Reading::bind, crate::specs::Reading::done))]
+pub(crate) fn file(alloc: Global, tokens: &[Token]) -> Result<(File, &[Token]), Stop>
+    ensures { Gives (λ r. (r.0, r.1.now)) result (file tokens.now) }
+{
+    let (namespace, rest) = namespace(alloc, tokens)?;
+    let (levels, rest) = levels(alloc, rest)?;
+    let (imports, rest) = imports(alloc, rest)?;
+    let (root, rest) = features(alloc, rest)?;
+    let (rules, rest) = constraints(alloc, rest)?;
+    let (finish, rest) = finish(rest)?;
+    Ok((
+        File {
+            namespace,
+            levels,
+            imports,
+            root,
+            rules,
+            finish,
+        },
+        rest,
+    ))
+}

@@ -1,0 +1,7 @@
+//! The law of parsing.
+ghost use Rattle.uvl_parser.specs.Parsing.{EachTokenListIsParsedOnce};
+
+/// Each list of tokens is parsed as one file or refused at one place for one kind of fault, and never both.
+pub fn every_token_list_is_parsed_once()
+    ensures { EachTokenListIsParsedOnce }
+{}
