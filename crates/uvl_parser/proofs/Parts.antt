@@ -10,3 +10,4 @@ pub mod Features
 pub mod Sections
 pub mod File
 pub mod Endings
+pub mod Members
