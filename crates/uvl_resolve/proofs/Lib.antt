@@ -1,0 +1,10 @@
+pub mod Deciding
+pub mod Everywhere
+pub mod Existing
+pub mod Limits
+pub mod Loops
+pub mod ModelNames
+pub mod OneTree
+pub mod PlainLines
+pub mod Steps
+pub mod Stops

@@ -1,0 +1,42 @@
+//! The model of one file.
+ghost use Rattle.std.specs.Prelude.{◌≤◌, IfOk, IsErr, IfSome, IsErrOf};
+ghost use Rattle.uvl_ast.specs.Depth.{depth_of};
+ghost use Rattle.uvl_ast.specs.Members.{EachGroupHasMembers};
+ghost use Rattle.uvl_model.specs.Spelling.{Spells};
+ghost use Rattle.uvl_model.specs.Tree.{Tree};
+ghost use Rattle.uvl_resolve.specs.Causes.{HasCause};
+ghost use Rattle.uvl_resolve.specs.Thin.{IsThin};
+ghost use Rattle.uvl_resolve.specs.TreeOf.{IsTreeOf};
+
+use crate::ResolveFault;
+use crate::rows::RowBuilder;
+use std::alloc::Global;
+use uvl_ast::File;
+use uvl_model::Model;
+
+/// The model that a file says, in time linear in the file's tree. Today a file says a model where
+/// it is the text of a tree of mandatory and optional groups with distinct names.
+pub fn resolve(alloc: Global, file: &File) -> Result<Model, ResolveFault>
+    requires shallow { IfSome file.now.root (λ root. depth_of root ≤ 64) }
+    requires members { IfSome file.now.root EachGroupHasMembers }
+    ensures spelled { IfOk result (λ model. (tree : Tree) × IsTreeOf file.now tree × Spells tree model) }
+    ensures thin { IfOk result IsThin }
+    ensures not_built { IsErrOf result ResolveFault.NotBuilt → HasCause file.now }
+    ensures refused { HasCause file.now → IsErr result }
+{
+    let Some(root) = &file.root else {
+        return Err(ResolveFault::NotBuilt);
+    };
+    if !file.imports.is_empty() || !file.rules.is_empty() {
+        return Err(ResolveFault::NotBuilt);
+    }
+    let mut rows = RowBuilder::new(alloc);
+    rows.add_feature(root, None)?;
+    let RowBuilder {
+        alloc: _,
+        names,
+        features,
+        groups,
+    } = rows;
+    Ok(Model::new(names, features, groups))
+}
