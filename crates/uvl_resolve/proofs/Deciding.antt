@@ -1,12 +1,12 @@
 -- A file is built or has a cause against it.
-use Rattle.std.proofs.Common.{◌≡◌, ◌≢◌, ℕ, zero, suc, ◌+◌, ◌<◌, ◌≤◌, Bool, true, false, List, [], ◌∷◌, ◌++◌, map, length, get_or, Contains, Option, Some, None, refl, sym, ap, ◌∙◌, subst, arith, inl, inr}
+use Rattle.std.proofs.Common.{◌≡◌, ◌≢◌, ℕ, zero, suc, ◌<◌, ◌≤◌, Bool, true, false, List, [], ◌∷◌, length, get_or, Contains, Option, Some, None, refl, sym, ap, ◌∙◌, subst, arith, inl, inr}
 use Rattle.std.specs.Prelude.{◌⊎◌}
 use Rattle.std.specs.List.{All, Any}
 use Rattle.std.specs.Str.{bytes_eq}
 use Rattle.std.proofs.lemmas.Bool.{false≢true}
 use Rattle.std.proofs.lemmas.Bool.Decides.{leb_tells}
 use Rattle.std.proofs.lemmas.List.{length-map}
-use Rattle.std.proofs.lemmas.List.Elements.{All-map, All-from_recursion}
+use Rattle.std.proofs.lemmas.List.Elements.{All-map}
 use Rattle.std.proofs.lemmas.Slice.Eq.{bytes_eq-Decides}
 use Rattle.uvl_ast.specs.declared.feature.Feature.{Feature}
 use Rattle.uvl_ast.specs.declared.feature.GroupKind.{GroupKind}
@@ -17,7 +17,7 @@ use Rattle.uvl_model.specs.Tree.{Tree, names_of}
 use Rattle.uvl_resolve.specs.Built.{AreModelNames, IsBuilt}
 use Rattle.uvl_resolve.specs.Causes.{HasEntry, IsPlacing, IsOtherKind, HasTreeCause, entry, other_kind, placing_line, name_twice, too_many, HasCause, no_features, import_line, constraint, in_features}
 use Rattle.uvl_resolve.specs.Lines.{Line, lines_from, kinds_from, names_in}
-use Rattle.uvl_resolve.specs.TreeOf.{IsTree, IsTreeOf}
+use Rattle.uvl_resolve.specs.TreeOf.{IsTree}
 use Rattle.uvl_resolve.proofs.Everywhere.{all_or_any, all_never_any}
 use Rattle.uvl_resolve.proofs.Existing.{IsPlain, plain_tree}
 use Rattle.uvl_resolve.proofs.OneTree.{one_root}

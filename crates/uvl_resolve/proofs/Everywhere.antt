@@ -1,5 +1,5 @@
 -- What holds of each element of a list, or of one.
-use Rattle.std.proofs.Common.{◌≡◌, ℕ, ◌<◌, List, [], ◌∷◌, ◌++◌, length, get_or, refl, sym, subst, arith, inl, inr, zero, suc}
+use Rattle.std.proofs.Common.{List, [], ◌∷◌, ◌++◌, refl, subst, arith, inl, inr, suc}
 use Rattle.std.specs.Prelude.{◌⊎◌}
 use Rattle.std.specs.List.{All, Any}
 use Rattle.std.proofs.lemmas.List.Elements.{All-nil, All-cons, All-head, All-tail}

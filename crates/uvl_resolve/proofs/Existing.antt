@@ -1,6 +1,5 @@
 -- Where each line is plain and each kind is built, there is a tree.
-use Rattle.std.proofs.Common.{◌≡◌, ℕ, zero, suc, ◌+◌, ◌≤◌, max, List, [], ◌∷◌, ◌++◌, map, length, Option, Some, refl, sym, ap, ◌∙◌, subst, arith, inl, inr}
-use Rattle.std.specs.Prelude.{◌⊎◌}
+use Rattle.std.proofs.Common.{◌≡◌, ℕ, zero, suc, ◌+◌, ◌≤◌, List, [], ◌∷◌, map, length, Some, ap, subst, arith, inl, inr}
 use Rattle.std.specs.List.{All, flat_map}
 use Rattle.std.proofs.lemmas.List.Elements.{All-head, All-tail}
 use Rattle.uvl_ast.specs.Depth.{greatest, feature_depth, group_depth, depth_of, depth_of_group}
@@ -8,12 +7,11 @@ use Rattle.uvl_ast.specs.declared.feature.Feature.{Feature, out-Feature}
 use Rattle.uvl_ast.specs.declared.feature.Feature.TheFolds.{fold_out-Feature, fold_out-Group}
 use Rattle.uvl_ast.specs.declared.feature.Group.{Group, out-Group}
 use Rattle.uvl_ast.specs.declared.feature.GroupKind.{GroupKind}
-use Rattle.uvl_ast.specs.declared.feature.GroupKind.TheVariants.{Mandatory, Optional}
 use Rattle.uvl_model.specs.Tree.{Tree, Groups, Members, feature, no_groups, group, no_members, member}
 use Rattle.uvl_resolve.specs.Lines.{Line, lines_from, lines_below, kinds_from, kinds_below}
-use Rattle.uvl_resolve.specs.TreeOf.{Declares, IsTree, AreGroups, AreMembers, bounds_of}
+use Rattle.uvl_resolve.specs.TreeOf.{IsTree, AreGroups, AreMembers, bounds_of}
 use Rattle.uvl_resolve.proofs.Everywhere.{all_front, all_rest}
-use Rattle.uvl_resolve.proofs.PlainLines.{IsBuiltKind, line_of, lines_at, lines_in, kinds_at, kinds_in, plain_line}
+use Rattle.uvl_resolve.proofs.PlainLines.{IsBuiltKind, line_of, lines_at, lines_in, kinds_at, kinds_in}
 
 -- a line that declares a name and says no more
 pub record IsPlain (line : Line) : Type 0 where

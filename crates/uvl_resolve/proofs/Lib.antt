@@ -8,3 +8,4 @@ pub mod OneTree
 pub mod PlainLines
 pub mod Steps
 pub mod Stops
+pub mod Within

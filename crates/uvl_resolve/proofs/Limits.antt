@@ -14,15 +14,14 @@ use Rattle.uvl_ast.specs.declared.feature.GroupKind.TheVariants.{Mandatory, Opti
 use Rattle.uvl_model.specs.declared.rows.FeatureNo.{FeatureNo}
 use Rattle.uvl_model.specs.declared.rows.FeatureRow.{FeatureRow}
 use Rattle.uvl_model.specs.declared.rows.GroupRow.{GroupRow}
-use Rattle.uvl_model.specs.Rows.{Rows}
 use Rattle.uvl_model.specs.Sound.{IsSound, HasBounds, IsBounded, AreBounded, MembersAreBounded}
 use Rattle.uvl_model.specs.Spelling.{numbered, size_of, size_of_members, feature_rows, group_rows, group_rows_of_groups, group_rows_of_members, member_numbers}
 use Rattle.uvl_model.specs.Tree.{Tree, Groups, Members, feature, no_groups, group, no_members, member, member_count, names_of, depth_of as tree_depth, depth_of_groups, depth_of_members}
 use Rattle.uvl_resolve.specs.declared.rows.RowBuilder.{RowBuilder}
 use Rattle.uvl_resolve.specs.Built.{AreModelNames}
 use Rattle.uvl_resolve.specs.Thin.{IsMandatoryOrOptional}
-use Rattle.uvl_resolve.specs.TreeOf.{Declares, IsTree, AreGroups, AreMembers, bounds_of}
-use Rattle.uvl_resolve.specs.Walk.{AreSoFar, AddsTree}
+use Rattle.uvl_resolve.specs.TreeOf.{IsTree, AreGroups, AreMembers, bounds_of}
+use Rattle.uvl_resolve.specs.Walk.{AddsTree}
 use Rattle.uvl_resolve.proofs.Everywhere.{all_front, all_rest}
 use Rattle.uvl_resolve.proofs.Existing.{depth_at, depth_in}
 
@@ -70,10 +69,10 @@ bounds_cases Or k lo hi h = absurd cc
 bounds_cases (Range least most) k lo hi h = absurd cc
 
 -- the counts of a line's groups, and of a group and what is below it
-counts_at : (line : Feature) → member_counts line ≡ flat_map (λ counts. counts) (map member_counts_of_group (out-Feature line).groups)
+pub counts_at : (line : Feature) → member_counts line ≡ flat_map (λ counts. counts) (map member_counts_of_group (out-Feature line).groups)
 counts_at line = fold_out-Feature (List ℕ) (List ℕ) feature_counts group_counts line
 
-counts_in : (written : Group) → member_counts_of_group written ≡ length (out-Group written).members ∷ flat_map (λ counts. counts) (map member_counts (out-Group written).members)
+pub counts_in : (written : Group) → member_counts_of_group written ≡ length (out-Group written).members ∷ flat_map (λ counts. counts) (map member_counts (out-Group written).members)
 counts_in written =
     fold_out-Group (List ℕ) (List ℕ) feature_counts group_counts written
     ∙ ap (λ (n : ℕ). n ∷ flat_map (λ counts. counts) (map member_counts (out-Group written).members)) (length-map (out-Group written).members member_counts)

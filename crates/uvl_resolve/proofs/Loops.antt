@@ -1,11 +1,11 @@
 -- What holds in the middle of a list of groups and of a list of members.
 use Rattle.std.proofs.Common.{◌≡◌, ℕ, ◌+◌, ◌<◌, List, [], ◌∷◌, ◌++◌, length, drop, get_or, Some, refl, sym, ap, ◌∙◌, subst}
 use Rattle.std.proofs.lemmas.List.{append_assoc, append-nil, drop_more}
-use Rattle.uvl_ast.specs.declared.feature.Feature.{Feature, out-Feature}
+use Rattle.uvl_ast.specs.declared.feature.Feature.{Feature}
 use Rattle.uvl_ast.specs.declared.feature.Group.{Group, out-Group}
 use Rattle.uvl_model.specs.declared.rows.FeatureNo.{FeatureNo}
-use Rattle.uvl_model.specs.Spelling.{numbered, member_numbers}
-use Rattle.uvl_model.specs.Tree.{Tree, Groups, Members, feature, no_groups, group, no_members, member, names_of, names_of_groups, names_of_members}
+use Rattle.uvl_model.specs.Spelling.{numbered}
+use Rattle.uvl_model.specs.Tree.{Tree, Groups, Members, no_groups, group, no_members, member, names_of, names_of_groups, names_of_members}
 use Rattle.uvl_resolve.specs.declared.rows.RowBuilder.{RowBuilder}
 use Rattle.uvl_resolve.specs.Built.{AreModelNames}
 use Rattle.uvl_resolve.specs.TreeOf.{IsTree, AreGroups, AreMembers, bounds_of}

@@ -1,11 +1,11 @@
 -- Lines with what stands below them are one tree at most.
-use Rattle.std.proofs.Common.{◌≡◌, ℕ, List, [], ◌∷◌, length, Option, Some, None, refl, sym, ap, ◌∙◌, subst}
+use Rattle.std.proofs.Common.{◌≡◌, ℕ, List, [], ◌∷◌, Option, Some, refl, sym, ap, ◌∙◌, subst}
 use Rattle.std.specs.Prelude.{unwrap_or}
 use Rattle.uvl_ast.specs.declared.feature.Feature.{Feature, out-Feature}
 use Rattle.uvl_ast.specs.declared.feature.Group.{Group, out-Group}
 use Rattle.uvl_ast.specs.declared.file.File.{File}
 use Rattle.uvl_model.specs.Tree.{Tree, Groups, Members, feature, no_groups, group, no_members, member}
-use Rattle.uvl_resolve.specs.TreeOf.{Declares, IsTree, AreGroups, AreMembers, IsTreeOf, bounds_of}
+use Rattle.uvl_resolve.specs.TreeOf.{Declares, IsTree, AreGroups, AreMembers, IsTreeOf}
 
 -- the bounds of a group are one pair
 one_lo : (bounds : Option (ℕ × ℕ)) (lo hi least most : ℕ) → bounds ≡ Some (lo, hi) → bounds ≡ Some (least, most) → lo ≡ least

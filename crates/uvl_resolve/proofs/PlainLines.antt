@@ -1,8 +1,8 @@
 -- The lines of a tree declare its names and say no more.
-use Rattle.std.proofs.Common.{◌≡◌, ℕ, List, [], ◌∷◌, ◌++◌, map, length, Option, Some, None, refl, sym, ap, ◌∙◌, subst, inl, inr}
+use Rattle.std.proofs.Common.{◌≡◌, ℕ, List, [], ◌∷◌, ◌++◌, map, Some, refl, sym, ap, ◌∙◌, subst, inl, inr}
 use Rattle.std.specs.Prelude.{◌⊎◌}
 use Rattle.std.specs.List.{All, flat_map}
-use Rattle.std.proofs.lemmas.List.{map-append, length-map}
+use Rattle.std.proofs.lemmas.List.{map-append}
 use Rattle.std.proofs.lemmas.List.Elements.{All-nil, All-cons, All-append}
 use Rattle.uvl_ast.specs.declared.feature.Feature.{Feature, out-Feature}
 use Rattle.uvl_ast.specs.declared.feature.Feature.TheFolds.{fold_out-Feature, fold_out-Group}
@@ -11,7 +11,7 @@ use Rattle.uvl_ast.specs.declared.feature.GroupKind.{GroupKind}
 use Rattle.uvl_ast.specs.declared.feature.GroupKind.TheVariants.{Mandatory, Optional, Alternative, Or, Range}
 use Rattle.uvl_model.specs.Tree.{Tree, Groups, Members, feature, no_groups, group, no_members, member, names_of, names_of_groups, names_of_members}
 use Rattle.uvl_resolve.specs.Lines.{Line, lines_from, lines_below, lines_of_feature, lines_of_group, kinds_from, kinds_below, kinds_of_feature, kinds_of_group, names_in}
-use Rattle.uvl_resolve.specs.TreeOf.{Declares, IsTree, AreGroups, AreMembers, bounds_of}
+use Rattle.uvl_resolve.specs.TreeOf.{IsTree, AreGroups, AreMembers, bounds_of}
 
 -- the line that declares a name and says no more
 abbrev pub plain_line : List ℕ → Line

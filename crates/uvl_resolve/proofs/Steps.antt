@@ -2,12 +2,11 @@
 use Rattle.std.proofs.Common.{◌≡◌, ℕ, ◌+◌, List, [], ◌∷◌, ◌++◌, length, set, Some, refl, sym, ap, ◌∙◌, subst}
 use Rattle.std.proofs.lemmas.List.{length-append, append_assoc, append-nil, set_at}
 use Rattle.uvl_ast.specs.declared.feature.Feature.{Feature, out-Feature}
-use Rattle.uvl_ast.specs.declared.feature.Group.{Group, out-Group}
+use Rattle.uvl_ast.specs.declared.feature.Group.{Group}
 use Rattle.uvl_model.specs.declared.rows.FeatureNo.{FeatureNo}
-use Rattle.uvl_model.specs.declared.rows.FeatureRow.{FeatureRow}
 use Rattle.uvl_model.specs.declared.rows.GroupRow.{GroupRow}
-use Rattle.uvl_model.specs.Spelling.{numbered, size_of, size_of_members, feature_rows, feature_rows_of_groups, feature_rows_of_members, member_numbers, group_rows, group_rows_of_groups, group_rows_of_members}
-use Rattle.uvl_model.specs.Tree.{Tree, Groups, Members, feature, no_groups, group, no_members, member, names_of, names_of_groups, names_of_members}
+use Rattle.uvl_model.specs.Spelling.{numbered, size_of, size_of_members, feature_rows_of_groups, feature_rows_of_members, member_numbers, group_rows_of_groups, group_rows_of_members}
+use Rattle.uvl_model.specs.Tree.{feature, no_groups, group, no_members, member}
 use Rattle.uvl_resolve.specs.declared.rows.RowBuilder.{RowBuilder}
 use Rattle.uvl_resolve.specs.Walk.{AddsLine, AddsTree, AddsGroup, AddsGroups, AddsMembers}
 

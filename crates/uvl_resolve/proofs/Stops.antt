@@ -1,9 +1,9 @@
 -- Where the walk stops for a fault, the tree is none of a built file.
-use Rattle.std.proofs.Common.{◌≡◌, ℕ, ◌+◌, ◌<◌, ◌≤◌, List, [], ◌∷◌, ◌++◌, length, Result, Ok, Err, IsErrAnd, Option, arith, refl, sym, ap, ◌∙◌, subst}
+use Rattle.std.proofs.Common.{◌≡◌, ℕ, ◌<◌, ◌≤◌, List, [], ◌∷◌, ◌++◌, length, Result, Ok, Err, IsErrAnd, Option, arith, refl, ap, subst}
 use Rattle.std.proofs.lemmas.List.{length-append}
 use Rattle.uvl_ast.specs.declared.feature.Feature.{Feature, out-Feature}
 use Rattle.uvl_model.specs.declared.rows.FeatureNo.{FeatureNo}
-use Rattle.uvl_model.specs.Tree.{Tree, Groups, Members, feature, no_groups, group, no_members, member, names_of, names_of_groups, names_of_members}
+use Rattle.uvl_model.specs.Tree.{Tree, Groups, Members, feature, no_members, member, names_of, names_of_groups, names_of_members}
 use Rattle.uvl_resolve.specs.declared.fault.ResolveFault.{ResolveFault}
 use Rattle.uvl_resolve.specs.declared.fault.ResolveFault.TheVariants.{NotBuilt}
 use Rattle.uvl_resolve.specs.declared.rows.RowBuilder.{RowBuilder}

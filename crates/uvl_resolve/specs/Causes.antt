@@ -1,5 +1,5 @@
--- Why no model is made of a file yet.
-use Rattle.std.specs.Prelude.{◌≡◌, ◌≢◌, ℕ, ◌<◌, ◌⊎◌, List, [], length, Some, None}
+-- Why no model is made of a file.
+use Rattle.std.specs.Prelude.{◌≡◌, ◌≢◌, ◌<◌, ◌⊎◌, [], length, Some, None}
 use Rattle.std.specs.List.{Any}
 use Rattle.uvl_ast.specs.declared.feature.Feature.{Feature}
 use Rattle.uvl_ast.specs.declared.feature.GroupKind.{GroupKind}
@@ -8,11 +8,11 @@ use Rattle.uvl_ast.specs.declared.file.File.{File}
 use Rattle.uvl_model.specs.Sound.{AreDistinct}
 use Rattle.uvl_resolve.specs.Lines.{Line, lines_from, kinds_from, names_in}
 
--- an attribute or a rule stands in the line's braces
+-- an attribute or a rule stands in the line's braces; empty braces say nothing
 abbrev pub HasEntry : Line → Type 0
 HasEntry line = (line.attributes ≢ []) ⊎ (line.rules ≢ [])
 
--- the line's reference isn't one name, so that the line doesn't declare a feature
+-- the line's reference isn't one name: it doesn't declare a feature, but is to place an imported tree
 abbrev pub IsPlacing : Line → Type 0
 IsPlacing line = length line.reference ≢ 1
 
@@ -20,7 +20,9 @@ IsPlacing line = length line.reference ≢ 1
 abbrev pub IsOtherKind : GroupKind → Type 0
 IsOtherKind kind = (kind ≢ Mandatory) × (kind ≢ Optional)
 
--- what there is in a features section of which no model is made yet, or of which none is ever made
+-- The causes in a tree of features: an entry in the braces of some line, a group of another kind, a placing
+-- line, a name that stands twice, more than 2,048 features. The last two are for good, the others until they
+-- are built.
 pub data HasTreeCause (root : Feature) : Type 0 where
   entry : Any HasEntry (lines_from root) → HasTreeCause root
   other_kind : Any IsOtherKind (kinds_from root) → HasTreeCause root
@@ -28,7 +30,8 @@ pub data HasTreeCause (root : Feature) : Type 0 where
   name_twice : (AreDistinct (names_in (lines_from root)) → ⊥) → HasTreeCause root
   too_many : 2048 < length (lines_from root) → HasTreeCause root
 
--- what there is in a file
+-- The causes in a file: there is no features section, there is an import line, there is a constraint, or the
+-- tree of the features section has a cause.
 pub data HasCause (file : File) : Type 0 where
   no_features : file.root ≡ None → HasCause file
   import_line : file.imports ≢ [] → HasCause file

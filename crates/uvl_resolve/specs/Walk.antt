@@ -3,7 +3,7 @@ use Rattle.std.specs.Prelude.{◌≡◌, ℕ, List, [], ◌∷◌, ◌++◌, map
 use Rattle.uvl_ast.specs.declared.feature.Feature.{Feature}
 use Rattle.uvl_ast.specs.declared.feature.Group.{Group, out-Group}
 use Rattle.uvl_model.specs.declared.rows.FeatureNo.{FeatureNo}
-use Rattle.uvl_model.specs.Spelling.{numbered, feature_rows, feature_rows_of_groups, feature_rows_of_members, member_numbers, group_rows, group_rows_of_groups, group_rows_of_members}
+use Rattle.uvl_model.specs.Spelling.{feature_rows, feature_rows_of_groups, feature_rows_of_members, member_numbers, group_rows, group_rows_of_groups, group_rows_of_members}
 use Rattle.uvl_model.specs.Tree.{Tree, Groups, Members, names_of, names_of_groups, names_of_members}
 use Rattle.uvl_resolve.specs.declared.rows.RowBuilder.{RowBuilder}
 use Rattle.uvl_resolve.specs.Built.{AreModelNames}

@@ -37,12 +37,15 @@ fn is_group_within(group: &Group, most: usize) -> bool
     ensures shallow { IsTrue result → depth_of_group group.now ≤ most }
     ensures members { IsTrue result → All (λ count. 1 ≤ count) (member_counts_of_group group.now) }
 {
+    if group.members.is_empty() {
+        return false;
+    }
     for member in group.members.as_slice() {
         if !is_within(member, most) {
             return false;
         }
     }
-    !group.members.is_empty()
+    true
 }
 
 fn reference(alloc: Global, names: &[&str]) -> Result<Ref, Fail> {
@@ -165,7 +168,6 @@ enum Change {
     Kind(GroupKind),
     PlacingLine,
     NameTwice,
-    Members(u32),
 }
 
 fn import(alloc: Global) -> Result<Import, Fail> {
@@ -184,45 +186,67 @@ fn attribute(alloc: Global) -> Result<Attribute, Fail> {
     })
 }
 
-/// A group of the features f0, f1 and so on.
-fn crowd(alloc: Global, count: u32) -> Result<Group, Fail> {
-    let mut members = Items::new(alloc);
-    for member in 0..count {
-        let name = format!(in alloc; "f{member}")?;
-        members.push(feature(alloc, name.as_str())?)?;
-    }
-    Ok(Group {
-        kind: GroupKind::Optional,
-        members,
-        place: PLACE,
-    })
+fn constraint(alloc: Global) -> Result<Expr, Fail> {
+    Ok(Expr::Name(reference(alloc, &["Car"])?))
 }
 
-/// The file with the features Car and, below it, Body, with one change.
-fn changed(alloc: Global, change: Change) -> Result<File, Fail> {
+/// The line of Body, with one change.
+fn body(alloc: Global, change: Change) -> Result<Feature, Fail> {
     let mut body = feature(alloc, "Body")?;
-    let mut kind = GroupKind::Mandatory;
     match change {
         Change::Attribute => body.attributes.push(attribute(alloc)?)?,
-        Change::Rule => body.rules.push(Expr::Name(reference(alloc, &["Car"])?))?,
-        Change::Kind(other) => kind = other,
+        Change::Rule => body.rules.push(constraint(alloc)?)?,
         Change::PlacingLine => body.name = reference(alloc, &["b", "Body"])?,
         Change::NameTwice => body.name = reference(alloc, &["Car"])?,
         _ => {}
     }
+    Ok(body)
+}
+
+/// Car and, below it, Body, with one change.
+fn root(alloc: Global, change: Change) -> Result<Feature, Fail> {
+    let kind = match change {
+        Change::Kind(kind) => kind,
+        _ => GroupKind::Mandatory,
+    };
     let mut root = feature(alloc, "Car")?;
-    root.groups.push(match change {
-        Change::Members(count) => crowd(alloc, count)?,
-        _ => group(alloc, kind, body)?,
-    })?;
-    let mut file = file_of(alloc, root)?;
-    match change {
-        Change::NoFeatures => file.root = None,
-        Change::ImportLine => file.imports.push(import(alloc)?)?,
-        Change::Constraint => file.rules.push(Expr::Name(reference(alloc, &["Car"])?))?,
-        _ => {}
+    root.groups.push(group(alloc, kind, body(alloc, change)?)?)?;
+    Ok(root)
+}
+
+fn imports(alloc: Global, change: Change) -> Result<Items<Import>, Fail> {
+    let mut imports = Items::new(alloc);
+    if let Change::ImportLine = change {
+        imports.push(import(alloc)?)?;
     }
-    Ok(file)
+    Ok(imports)
+}
+
+fn rules(alloc: Global, change: Change) -> Result<Items<Expr>, Fail> {
+    let mut rules = Items::new(alloc);
+    if let Change::Constraint = change {
+        rules.push(constraint(alloc)?)?;
+    }
+    Ok(rules)
+}
+
+fn features(alloc: Global, change: Change) -> Result<Option<Feature>, Fail> {
+    match change {
+        Change::NoFeatures => Ok(None),
+        _ => Ok(Some(root(alloc, change)?)),
+    }
+}
+
+/// The file of Car and Body, with one change.
+fn changed(alloc: Global, change: Change) -> Result<File, Fail> {
+    Ok(File {
+        namespace: None,
+        levels: Items::new(alloc),
+        imports: imports(alloc, change)?,
+        root: features(alloc, change)?,
+        rules: rules(alloc, change)?,
+        finish: PLACE,
+    })
 }
 
 #[test]
@@ -241,9 +265,6 @@ fn a_file_that_says_more_than_a_tree_is_not_built(rt: HostRuntime) -> Result<(),
         (Change::Kind(GroupKind::Range { lo: 1, hi: Some(1) }), false),
         (Change::PlacingLine, false),
         (Change::NameTwice, false),
-        (Change::Members(2047), true),
-        (Change::Members(2048), false),
-        (Change::Members(2049), false),
     ];
     for (change, built) in rows {
         let file = changed(alloc, change)?;
@@ -251,6 +272,32 @@ fn a_file_that_says_more_than_a_tree_is_not_built(rt: HostRuntime) -> Result<(),
             Ok(_) => assert!(rt; built, "{change:?}"),
             Err(fault) => assert!(rt; !built && fault == ResolveFault::NotBuilt, "{change:?}"),
         }
+    }
+    Ok(())
+}
+
+/// A group of the features f0, f1 and so on.
+fn crowd(alloc: Global, count: u32) -> Result<Group, Fail> {
+    let mut members = Items::new(alloc);
+    for member in 0..count {
+        let name = format!(in alloc; "f{member}")?;
+        members.push(feature(alloc, name.as_str())?)?;
+    }
+    Ok(Group {
+        kind: GroupKind::Optional,
+        members,
+        place: PLACE,
+    })
+}
+
+#[test]
+fn a_model_has_2048_features_at_most(rt: HostRuntime) -> Result<(), Fail> {
+    let alloc = rt.alloc();
+    for (members, built) in [(2047, true), (2048, false), (2049, false)] {
+        let mut root = feature(alloc, "Car")?;
+        root.groups.push(crowd(alloc, members)?)?;
+        let answer = answer(&rt, alloc, &file_of(alloc, root)?);
+        assert_eq!(rt; answer.is_ok(), built, "{members}");
     }
     Ok(())
 }
@@ -270,7 +317,7 @@ fn chain(alloc: Global, count: u32) -> Result<Feature, Fail> {
 }
 
 #[test]
-fn a_model_is_64_deep_at_most(rt: HostRuntime) -> Result<(), Fail> {
+fn a_tree_64_deep_is_built(rt: HostRuntime) -> Result<(), Fail> {
     let alloc = rt.alloc();
     let model = answer(&rt, alloc, &file_of(alloc, chain(alloc, 64)?)?)?;
     assert_eq!(rt; model.find("last"), Some(FeatureNo(63)));

@@ -62,6 +62,7 @@ impl RowBuilder {
             AreMembers (out-Group group.now).members members →
             AreModelNames (self.old.names ++ names_of_members members) → ⊥ }
     {
+        // Each member is a feature, so that a longer list is refused without counting on.
         let count = group.members.len();
         if count > MOST_FEATURES {
             return Err(ResolveFault::NotBuilt);

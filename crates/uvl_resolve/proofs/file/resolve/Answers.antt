@@ -1,5 +1,5 @@
 -- The rows of the whole walk are those of a model, and where the walk stops the file has a cause.
-use Rattle.std.proofs.Common.{rules, ◌≡◌, ◌++◌, [], List, ℕ, Option, Some, Err, sym, ap, subst}
+use Rattle.std.proofs.Common.{rules, ◌≡◌, ◌++◌, [], List, ℕ, Option, Err, sym, ap, subst}
 use Rattle.std.specs.Prelude.{IfSome, ◌≤◌}
 use Rattle.uvl_ast.specs.Depth.{depth_of}
 use Rattle.uvl_ast.specs.Members.{EachGroupHasMembers}
@@ -9,7 +9,7 @@ use Rattle.uvl_resolve.specs.Built.{AreModelNames}
 use Rattle.uvl_resolve.specs.Thin.{IsThin}
 use Rattle.uvl_resolve.specs.TreeOf.{IsTree}
 use Rattle.uvl_resolve.proofs.Deciding.{cause_found, built_no_cause}
-use Rattle.uvl_resolve.proofs.Limits.{IsWhole, whole, whole_sound, whole_thin}
+use Rattle.uvl_resolve.proofs.Limits.{whole, whole_sound, whole_thin}
 use Rattle.uvl_resolve.proofs.Stops.{same_fault}
 use Rattle.uvl_resolve.proofs.file.resolve.Goals as goal
 

@@ -5,11 +5,11 @@ use Rattle.uvl_ast.specs.declared.feature.Feature.{Feature, out-Feature}
 use Rattle.uvl_ast.specs.declared.feature.Group.{Group, out-Group}
 use Rattle.uvl_model.specs.declared.rows.FeatureNo.{FeatureNo}
 use Rattle.uvl_model.specs.declared.rows.GroupRow.{GroupRow}
-use Rattle.uvl_model.specs.Spelling.{member_numbers, group_rows_of_members}
-use Rattle.uvl_model.specs.Tree.{Groups, Members, names_of_groups, names_of_members}
+use Rattle.uvl_model.specs.Spelling.{group_rows_of_members}
+use Rattle.uvl_model.specs.Tree.{Groups, names_of_groups}
 use Rattle.uvl_resolve.specs.Built.{AreModelNames}
 use Rattle.uvl_resolve.specs.TreeOf.{AreGroups, AreMembers, bounds_of}
-use Rattle.uvl_resolve.specs.Walk.{AddsGroups, AddsMembers}
+use Rattle.uvl_resolve.specs.Walk.{AddsGroups}
 use Rattle.uvl_resolve.proofs.Loops.{GroupsGoOn, MembersGoOn, next_item, groups_step, groups_end, groups_stop, members_step, members_end, members_stop}
 use Rattle.uvl_resolve.proofs.Steps.{line_and_groups, filled}
 use Rattle.uvl_resolve.proofs.Stops.{same_fault, line_stop, below_stop, crowd_stop}

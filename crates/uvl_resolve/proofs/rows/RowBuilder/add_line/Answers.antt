@@ -1,5 +1,5 @@
 -- A name that is known stands twice then.
-use Rattle.std.proofs.Common.{ℕ, List, Contains, sym, subst, ◌∙◌}
+use Rattle.std.proofs.Common.{ℕ, List, Contains, subst, ◌∙◌}
 use Rattle.uvl_resolve.proofs.ModelNames.{distinct-last}
 use Rattle.uvl_resolve.proofs.OneTree.{one_name}
 use Rattle.uvl_resolve.proofs.rows.RowBuilder.add_line.Goals as goal
