@@ -13,7 +13,7 @@ use Rattle.uvl_model.specs.Tree.{Tree, Groups, Members, feature, no_groups, grou
 use Rattle.uvl_compile.specs.declared.outline.Entry.{Entry}
 use Rattle.uvl_compile.specs.Choice.{is_allowed}
 use Rattle.uvl_compile.specs.Outline.{entries_of, entries_of_groups, entries_of_members}
-use Rattle.uvl_compile.specs.Thin.{IsMandatoryOrOptional}
+use Rattle.uvl_model.specs.OptionalGroups.{IsMandatoryOrOptional}
 use Rattle.uvl_compile.proofs.GroupTests.{is_fit, group_holds-each}
 
 -- the first entry, if there is one, has at most this depth

@@ -7,7 +7,7 @@ use Rattle.std.proofs.lemmas.List.Sums.{sum_by-cons, count_by-le-length}
 use Rattle.uvl_model.specs.declared.rows.FeatureNo.{FeatureNo}
 use Rattle.uvl_model.specs.declared.rows.GroupRow.{GroupRow}
 use Rattle.uvl_model.specs.Check.{is_marked, marked_count, group_holds}
-use Rattle.uvl_compile.specs.Thin.{IsMandatoryOrOptional}
+use Rattle.uvl_model.specs.OptionalGroups.{IsMandatoryOrOptional}
 
 -- whether a feature may be chosen or not, by whether its parent is chosen and whether it is mandatory
 abbrev pub is_fit : Bool → Bool → Bool → Bool

@@ -4,7 +4,7 @@ use Rattle.dd_store.specs.declared.row.Var.{Var}
 use Rattle.dd_store.specs.Order.{level_in, IsIn}
 use Rattle.uvl_model.specs.Examples.{thin_rows}
 use Rattle.uvl_compile.specs.Row.{IsAscending}
-use Rattle.uvl_compile.specs.Thin.{IsThin}
+use Rattle.uvl_model.specs.OptionalGroups.{GroupsAreMandatoryOrOptional}
 
 abbrev three : List Var
 three = record { 0 = 0 } ∷ record { 0 = 1 } ∷ record { 0 = 2 } ∷ []
@@ -45,7 +45,7 @@ pub order_ascending : (none one two all : List Var) (a b c : Var) → none ≡ [
 order_ascending none one two all a b c n x y z i j k =
     subst (λ (order : List Var). IsAscending order 3) (sym (order_is none one two all a b c n x y z i j k)) three_ascending
 
-pub thin_is_thin : IsThin thin_rows
+pub thin_is_thin : GroupsAreMandatoryOrOptional thin_rows
 thin_is_thin zero d h = record { least = inl refl; most = refl }
 thin_is_thin (suc zero) d h = record { least = inr refl; most = refl }
 thin_is_thin (suc (suc k)) d h = absurd (omega arith)

@@ -10,12 +10,12 @@ use Rattle.uvl_model.specs.Tree.{Tree, names_of}
 use Rattle.uvl_compile.specs.Choice.{is_allowed}
 use Rattle.uvl_compile.specs.Chosen.{chosen_under}
 use Rattle.uvl_compile.specs.Outline.{outline_of}
-use Rattle.uvl_compile.specs.Thin.{IsThin}
+use Rattle.uvl_model.specs.OptionalGroups.{GroupsAreMandatoryOrOptional}
 
 -- where all groups are mandatory or optional, the chosen features are a product exactly where the outline allows them
 abbrev pub OutlineTellsProducts : Type 0
 OutlineTellsProducts =
-    (tree : Tree) (rows : Rows) (a : ℕ → Bool) → IsSound rows → IsThin rows → Spells tree rows →
+    (tree : Tree) (rows : Rows) (a : ℕ → Bool) → IsSound rows → GroupsAreMandatoryOrOptional rows → Spells tree rows →
     is_product tree (chosen_under a tree) ≡ is_allowed (outline_of tree) 0 a 0
 
 -- a row of marks chooses the features that it marks

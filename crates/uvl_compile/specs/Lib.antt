@@ -1,4 +1,3 @@
-pub mod Thin
 pub mod Outline
 pub mod Choice
 pub mod Chosen

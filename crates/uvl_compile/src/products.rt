@@ -9,7 +9,7 @@ ghost use Rattle.uvl_compile.specs.Chosen.{chosen_under};
 ghost use Rattle.uvl_compile.specs.Entering.{AreShallow};
 ghost use Rattle.uvl_compile.specs.Held.{HoldsMore, Grows};
 ghost use Rattle.uvl_compile.specs.Row.{IsAscending, IsRow};
-ghost use Rattle.uvl_compile.specs.Thin.{IsThin};
+ghost use Rattle.uvl_model.specs.OptionalGroups.{GroupsAreMandatoryOrOptional};
 
 use crate::handles::{push_within_capacity, release_all};
 use crate::laws::outline_tells_products;
@@ -25,7 +25,7 @@ use uvl_model::Model;
 /// It asks for at most 64 nodes for each feature, one for each number of features on the path from
 /// the root that may be chosen.
 pub fn compile(alloc: Global, store: &mut Store, model: &Model) -> Result<Handle, OutOfMemory>
-    requires thin { IsThin model.now }
+    requires groups { GroupsAreMandatoryOrOptional model.now }
     requires variables { IsAscending store.old.order (length model.now.features) }
     requires room { node_count store.old + 64 * length model.now.features ≤ store.old.budget }
 

@@ -3,7 +3,7 @@ ghost use Rattle.std.specs.Prelude.{◌≡◌, length, chars, IfOk};
 ghost use Rattle.dd_store.specs.Table.{node_count};
 ghost use Rattle.uvl_model.specs.Examples.{thin_rows};
 ghost use Rattle.uvl_compile.specs.Row.{IsAscending};
-ghost use Rattle.uvl_compile.specs.Thin.{IsThin};
+ghost use Rattle.uvl_model.specs.OptionalGroups.{GroupsAreMandatoryOrOptional};
 
 use crate::compile;
 use dd_store::Store;
@@ -80,7 +80,7 @@ fn three_variables(alloc: Global) -> Result<Store, Fail>
 
 /// Each row is thin.
 fn is_thin()
-    ensures { IsThin thin_rows }
+    ensures { GroupsAreMandatoryOrOptional thin_rows }
 {}
 
 #[test]

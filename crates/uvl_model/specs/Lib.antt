@@ -3,6 +3,7 @@ pub mod Examples
 pub mod Laws
 pub mod Marks
 pub mod Names
+pub mod OptionalGroups
 pub mod Product
 pub mod Rows
 pub mod Sound

@@ -19,7 +19,7 @@ use Rattle.uvl_model.specs.Spelling.{numbered, size_of, size_of_members, feature
 use Rattle.uvl_model.specs.Tree.{Tree, Groups, Members, feature, no_groups, group, no_members, member, member_count, names_of, depth_of as tree_depth, depth_of_groups, depth_of_members}
 use Rattle.uvl_resolve.specs.declared.rows.RowBuilder.{RowBuilder}
 use Rattle.uvl_resolve.specs.Built.{AreModelNames}
-use Rattle.uvl_resolve.specs.Thin.{IsMandatoryOrOptional}
+use Rattle.uvl_model.specs.OptionalGroups.{IsMandatoryOrOptional}
 use Rattle.uvl_resolve.specs.TreeOf.{IsTree, AreGroups, AreMembers, bounds_of}
 use Rattle.uvl_resolve.specs.Walk.{AddsTree}
 use Rattle.uvl_resolve.proofs.Everywhere.{all_front, all_rest}

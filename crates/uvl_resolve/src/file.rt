@@ -5,7 +5,7 @@ ghost use Rattle.uvl_ast.specs.Members.{EachGroupHasMembers};
 ghost use Rattle.uvl_model.specs.Spelling.{Spells};
 ghost use Rattle.uvl_model.specs.Tree.{Tree};
 ghost use Rattle.uvl_resolve.specs.Causes.{HasCause};
-ghost use Rattle.uvl_resolve.specs.Thin.{IsThin};
+ghost use Rattle.uvl_model.specs.OptionalGroups.{GroupsAreMandatoryOrOptional};
 ghost use Rattle.uvl_resolve.specs.TreeOf.{IsTreeOf};
 
 use crate::ResolveFault;
@@ -20,7 +20,7 @@ pub fn resolve(alloc: Global, file: &File) -> Result<Model, ResolveFault>
     requires shallow { IfSome file.now.root (λ root. depth_of root ≤ 64) }
     requires members { IfSome file.now.root EachGroupHasMembers }
     ensures spelled { IfOk result (λ model. (tree : Tree) × IsTreeOf file.now tree × Spells tree model) }
-    ensures thin { IfOk result IsThin }
+    ensures groups { IfOk result GroupsAreMandatoryOrOptional }
     ensures not_built { IsErrOf result ResolveFault.NotBuilt → HasCause file.now }
     ensures refused { HasCause file.now → IsErr result }
 {

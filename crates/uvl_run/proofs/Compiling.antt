@@ -21,7 +21,7 @@ use Rattle.uvl_model.specs.Void.{is_void}
 use Rattle.uvl_compile.specs.Chosen.{chosen_under}
 use Rattle.uvl_compile.specs.Laws.{MarksChooseFeatures}
 use Rattle.uvl_compile.specs.Row.{IsAscending}
-use Rattle.uvl_compile.specs.Thin as rows
+use Rattle.uvl_model.specs.OptionalGroups as rows
 use Rattle.uvl_run.specs.Compiled.{IsCompiled}
 use Rattle.uvl_run.specs.ThinFile.{IsThinFile, AreThin, AreLeaves}
 
@@ -60,7 +60,7 @@ thin_tree : (tree : Tree) (bytes : List ℕ) → IsThinFile bytes tree → All r
 thin_tree (feature name below) bytes file = thin_groups below _ 1 file.thin
 
 -- the rows of a thin file are thin
-pub thin_rows : (tree : Tree) (model : Rows) (bytes : List ℕ) → Spells tree model → IsThinFile bytes tree → rows.IsThin model
+pub thin_rows : (tree : Tree) (model : Rows) (bytes : List ℕ) → Spells tree model → IsThinFile bytes tree → rows.GroupsAreMandatoryOrOptional model
 thin_rows tree model bytes spelled file =
     let P : List GroupRow → Type 0 = λ groups. All rows.IsMandatoryOrOptional groups in
     subst P (sym spelled.groups) (thin_tree tree bytes file)

@@ -7,7 +7,7 @@ ghost use Rattle.uvl_model.specs.Spelling.{Spells, numbered};
 ghost use Rattle.uvl_model.specs.Tree.{Tree, names_of};
 ghost use Rattle.uvl_model.specs.Void.{is_void};
 ghost use Rattle.uvl_compile.specs.Row.{IsAscending};
-ghost use Rattle.uvl_compile.specs.Thin.{IsThin};
+ghost use Rattle.uvl_model.specs.OptionalGroups.{GroupsAreMandatoryOrOptional};
 
 use dd_store::{AddRefusal, Handle, Store};
 use std::alloc::{AllocError, Global};
@@ -38,7 +38,7 @@ impl std::marker::Model for Compiled {
 impl Compiled {
     /// Compiles a model in a table that may hold so many nodes.
     pub(crate) fn new(alloc: Global, model: Model, budget: u32) -> Result<Compiled, AllocError>
-        requires thin { IsThin model }
+        requires groups { GroupsAreMandatoryOrOptional model }
         requires least { 16 ≤ budget }
         requires largest { budget ≤ 16777216 }
         requires enough { 64 * length model.features ≤ budget }

@@ -3,7 +3,7 @@ ghost use Rattle.std.specs.Prelude.{◌≡◌, IfOk, IfErr, Bool};
 ghost use Rattle.uvl_outside.specs.Faults.{Counts};
 ghost use Rattle.uvl_model.specs.Tree.{Tree};
 ghost use Rattle.uvl_model.specs.Spelling.{Spells};
-ghost use Rattle.uvl_compile.specs.Thin.{IsThin};
+ghost use Rattle.uvl_model.specs.OptionalGroups.{GroupsAreMandatoryOrOptional};
 ghost use Rattle.uvl_run.specs.Loading.{LoadsModel};
 ghost use Rattle.uvl_run.specs.ThinFile.{IsThinFile};
 ghost use Rattle.uvl_run.specs.LoadFaults.{IsCauseOf, IsCauseIn, load_failed};
@@ -34,7 +34,7 @@ pub(crate) fn load_model<F: Files>(
     path: &str,
 ) -> Result<Model, LoadFault>
     ensures model { IfOk result (λ model. (tree : Tree) × Spells tree model × LoadsModel (F.told files.old) path.now tree) }
-    ensures thin { IfOk result IsThin }
+    ensures groups { IfOk result GroupsAreMandatoryOrOptional }
     ensures fault { IfErr result (IsCauseOf (F.told files.old) path.now) }
     ensures same { F.told files.new ≡ F.told files.old }
     ensures counted { Counts (F.faults files.old) (F.faults files.new) (load_failed result) }
@@ -52,7 +52,7 @@ pub(crate) fn load_model<F: Files>(
 /// The model that a file's bytes spell.
 fn model_in(alloc: Global, bytes: &[u8]) -> Result<Model, LoadFault>
     ensures model { IfOk result (λ model. (tree : Tree) × Spells tree model × IsThinFile bytes.now tree) }
-    ensures thin { IfOk result IsThin }
+    ensures groups { IfOk result GroupsAreMandatoryOrOptional }
     ensures fault { IfErr result (IsCauseIn bytes.now) }
 {
     match read_thin(alloc, bytes) {

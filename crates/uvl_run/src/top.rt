@@ -3,7 +3,7 @@ ghost use Rattle.std.specs.Prelude.{◌≡◌, ◌≤◌, ◌*◌, ℕ, nat_lt, 
 ghost use Rattle.uvl_outside.specs.Faults.{Counts};
 ghost use Rattle.uvl_model.specs.Spelling.{Spells};
 ghost use Rattle.uvl_model.specs.Tree.{Tree};
-ghost use Rattle.uvl_compile.specs.Thin.{IsThin};
+ghost use Rattle.uvl_model.specs.OptionalGroups.{GroupsAreMandatoryOrOptional};
 ghost use Rattle.uvl_run.specs.CommandLine.{request, request_of};
 ghost use Rattle.uvl_run.specs.Exactly.{IsExact};
 ghost use Rattle.uvl_run.specs.Loading.{at_front};
@@ -104,7 +104,7 @@ pub(crate) fn answer_by_model<S: Source, K: Sink>(
     input: &mut S,
     out: &mut K,
 ) -> Status
-    requires thin { IsThin model }
+    requires groups { GroupsAreMandatoryOrOptional model }
     requires least { 16 ≤ budget }
     requires largest { budget ≤ 16777216 }
     ensures answers { (tree : Tree) → Spells tree model →

@@ -15,7 +15,7 @@ use Rattle.uvl_model.specs.Spelling.{Spells, numbered, group_rows}
 use Rattle.uvl_model.specs.Tree.{Tree, names_of}
 use Rattle.uvl_compile.specs.Choice.{is_allowed}
 use Rattle.uvl_compile.specs.Outline.{outline_of}
-use Rattle.uvl_compile.specs.Thin.{IsThin, IsMandatoryOrOptional}
+use Rattle.uvl_model.specs.OptionalGroups.{GroupsAreMandatoryOrOptional, IsMandatoryOrOptional}
 use Rattle.uvl_compile.proofs.Allowed.{tree_allowed}
 use Rattle.uvl_compile.proofs.ChosenNames.{values_from, values_mark, values_at, allowed_alike}
 use Rattle.uvl_compile.proofs.Entries.{length-entries_of}
@@ -28,7 +28,7 @@ by_rows true false = refl
 by_rows false rows = refl
 
 -- marks choose what the outline allows
-by_marks : (tree : Tree) (rows : Rows) (marks : List Bool) → RowsCheckProducts → IsSound rows → IsThin rows → Spells tree rows
+by_marks : (tree : Tree) (rows : Rows) (marks : List Bool) → RowsCheckProducts → IsSound rows → GroupsAreMandatoryOrOptional rows → Spells tree rows
     → is_product tree (chosen_names rows marks) ≡ is_allowed (outline_of tree) 0 (assignment_of marks) 0
 by_marks tree rows marks check sound thin spelled =
     let a = assignment_of marks in

@@ -24,7 +24,7 @@ pub returns-clause-products : goal.returns-clause-products
 returns-clause-products c = λ tree a spelled.
     let sound = c.features.ensures.sound in
     let whole = c.deref.ensures.value ∙ c.in_ok-entries.ensures.outline tree spelled in
-    let law = c.outline_tells_products.ensures tree c.args.model.now a sound c.requires.thin spelled in
+    let law = c.outline_tells_products.ensures tree c.args.model.now a sound c.requires.groups spelled in
     let only = one_handle c in
     let first : slice_index c.in_ok-row.row.items 0 ≡ c.in-Some.handle = ap (λ (hs : List ℕ). slice_index hs 0) only in
     let size = ap length only in

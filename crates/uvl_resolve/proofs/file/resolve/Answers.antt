@@ -6,7 +6,7 @@ use Rattle.uvl_ast.specs.Members.{EachGroupHasMembers}
 use Rattle.uvl_ast.specs.declared.feature.Feature.{Feature}
 use Rattle.uvl_model.specs.Tree.{Tree, names_of}
 use Rattle.uvl_resolve.specs.Built.{AreModelNames}
-use Rattle.uvl_resolve.specs.Thin.{IsThin}
+use Rattle.uvl_model.specs.OptionalGroups.{GroupsAreMandatoryOrOptional}
 use Rattle.uvl_resolve.specs.TreeOf.{IsTree}
 use Rattle.uvl_resolve.proofs.Deciding.{cause_found, built_no_cause}
 use Rattle.uvl_resolve.proofs.Limits.{whole, whole_sound, whole_thin}
@@ -28,12 +28,12 @@ new-requires-clause-sound c =
     (subst (λ (o : Option Feature). IfSome o (λ line. depth_of line ≤ 64)) c.in-Some.is c.requires.shallow)
     (subst (λ (o : Option Feature). IfSome o EachGroupHasMembers) c.in-Some.is c.requires.members)
 
-pub returns-clause-thin : goal.returns-clause-thin
-returns-clause-thin c =
+pub returns-clause-groups : goal.returns-clause-groups
+returns-clause-groups c =
     let rows = c.add_feature.new.self in
     let root = c.in-Some.root in
     let h = whole c.new-rows.result rows root c.new-rows.ensures.names c.new-rows.ensures.features c.new-rows.ensures.groups c.in_ok-add_feature.ensures.added in
-    subst IsThin (sym c.new.ensures) (whole_thin rows root h)
+    subst GroupsAreMandatoryOrOptional (sym c.new.ensures) (whole_thin rows root h)
 
 pub returns-clause-refused : goal.returns-clause-refused
 returns-clause-refused c = λ cause.

@@ -2,5 +2,5 @@
 use Rattle.uvl_run.proofs.Compiling.{thin_rows}
 use Rattle.uvl_run.proofs.load.model_in.Goals as goal
 
-pub returns-in-Ok-clause-thin : goal.returns-in-Ok-clause-thin
-returns-in-Ok-clause-thin c = let read = c.in-Ok.ensures.read in thin_rows read.0 _ _ read.2 read.1
+pub returns-in-Ok-clause-groups : goal.returns-in-Ok-clause-groups
+returns-in-Ok-clause-groups c = let read = c.in-Ok.ensures.read in thin_rows read.0 _ _ read.2 read.1

@@ -10,5 +10,5 @@ pub record IsMandatoryOrOptional (row : GroupRow) : Type 0 where
   pub most : row.hi ≡ length row.members
 
 -- each group is mandatory or optional
-abbrev pub IsThin : Rows → Type 0
-IsThin rows = All IsMandatoryOrOptional rows.groups
+abbrev pub GroupsAreMandatoryOrOptional : Rows → Type 0
+GroupsAreMandatoryOrOptional rows = All IsMandatoryOrOptional rows.groups
