@@ -1,4 +1,4 @@
--- Thin files have thin rows, variables that are numbered in order stand in order, and a diagram tells products.
+-- Variables that are numbered in order stand in order, and a diagram tells products.
 use Rattle.std.proofs.Common.{◌≡◌, ℕ, zero, suc, ◌+◌, ◌<◌, Bool, true, false, not, List, [], ◌∷◌, ◌++◌, length, Some, None, ◌⊎◌, inl, inr, refl, sym, ap, ◌∙◌, subst, arith}
 use Rattle.std.specs.List.{All}
 use Rattle.std.proofs.lemmas.Bool.{false≢true, false_from_ne_true}
@@ -21,49 +21,7 @@ use Rattle.uvl_model.specs.Void.{is_void}
 use Rattle.uvl_compile.specs.Chosen.{chosen_under}
 use Rattle.uvl_compile.specs.Laws.{MarksChooseFeatures}
 use Rattle.uvl_compile.specs.Row.{IsAscending}
-use Rattle.uvl_model.specs.OptionalGroups as rows
 use Rattle.uvl_run.specs.Compiled.{IsCompiled}
-use Rattle.uvl_run.specs.ThinFile.{IsThinFile, AreThin, AreLeaves}
-
--- a group has a number for each member
-members_numbered : (n : ℕ) (members : Members) → length (member_numbers n members) ≡ member_count members
-members_numbered n no_members = refl
-members_numbered n (member tree others) = let later = members_numbered (n + size_of tree) others in omega arith
-
--- leaves have no groups
-no_rows : (n : ℕ) (members : Members) → AreLeaves members → group_rows_of_members n members ≡ []
-no_rows n no_members leaves = refl
-no_rows n (member (feature name no_groups) others) leaves = no_rows (n + size_of (feature name no_groups)) others leaves.1
-no_rows n (member (feature name (group lo hi members more)) others) leaves = let none : group lo hi members more ≡ no_groups = leaves.0 in cc
-
--- the rows of thin groups are thin
-thin_groups : (groups : Groups) (parent : FeatureNo) (n : ℕ) → AreThin groups → All rows.IsMandatoryOrOptional (group_rows_of_groups parent n groups)
-thin_groups no_groups parent n thin = λ k d within. absurd (omega arith)
-thin_groups (group lo hi members others) parent n thin =
-    let row : GroupRow = record { parent = parent; lo = lo; hi = hi; members = member_numbers n members } in
-    let count = members_numbered n members in
-    let bounds : rows.IsMandatoryOrOptional row = record { least = least thin.3 (sym thin.2 ∙ refl) count; most = thin.2 ∙ sym count } in
-    let none = no_rows n members thin.1 in
-    let later = thin_groups others parent (n + size_of_members members) thin.4 in
-    let P : List GroupRow → Type 0 = λ between. All rows.IsMandatoryOrOptional (row ∷ between ++ group_rows_of_groups parent (n + size_of_members members) others) in
-    subst P (sym none) (first row (group_rows_of_groups parent (n + size_of_members members) others) bounds later)
-  where
-    least : (lo ≡ 0) ⊎ (lo ≡ hi) → member_count members ≡ hi → length (member_numbers n members) ≡ member_count members → (lo ≡ length (member_numbers n members)) ⊎ (lo ≡ 0)
-    least (inl optional) most count = inr optional
-    least (inr mandatory) most count = inl (mandatory ∙ sym most ∙ sym count)
-
-    first : (row : GroupRow) (others' : List GroupRow) → rows.IsMandatoryOrOptional row → All rows.IsMandatoryOrOptional others' → All rows.IsMandatoryOrOptional (row ∷ others')
-    first row others' is all zero d within = is
-    first row others' is all (suc k) d within = all k d (omega arith)
-
-thin_tree : (tree : Tree) (bytes : List ℕ) → IsThinFile bytes tree → All rows.IsMandatoryOrOptional (group_rows 0 tree)
-thin_tree (feature name below) bytes file = thin_groups below _ 1 file.thin
-
--- the rows of a thin file are thin
-pub thin_rows : (tree : Tree) (model : Rows) (bytes : List ℕ) → Spells tree model → IsThinFile bytes tree → rows.GroupsAreMandatoryOrOptional model
-thin_rows tree model bytes spelled file =
-    let P : List GroupRow → Type 0 = λ groups. All rows.IsMandatoryOrOptional groups in
-    subst P (sym spelled.groups) (thin_tree tree bytes file)
 
 -- a tree has as many features as its rows
 pub feature_count : RowsGiveNames → (tree : Tree) (model : Rows) → Spells tree model → length model.features ≡ size_of tree

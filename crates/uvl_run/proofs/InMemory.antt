@@ -43,7 +43,7 @@ plain words contents script left taken said Done moved ended reads writes = (
 )
 plain words contents script left taken said Usage moved ended reads writes = (ended.0, ended.2)
 plain words contents script left taken said Model moved ended reads writes =
-    (ended.0, ended.1, ended.2.named, ended.2.faulty, ended.4)
+    (ended.0, ended.1, ended.2, ended.3.named, ended.3.faulty, ended.5)
 plain words contents script left taken said ReadFault moved ended reads writes =
     elim reads.rises [ inl rose ↦ absurd (omega arith) | inr rose ↦ absurd (omega arith) ]
 plain words contents script left taken said WriteFault moved ended reads writes = let rose = writes.rises in absurd (omega arith)

@@ -2,12 +2,13 @@
 use Rattle.std.proofs.Common.{◌≡◌, ℕ, ◌<◌, ◌≤◌, List, [], Option, Some, None, inl, inr, refl, sym, subst}
 use Rattle.uvl_outside.specs.Files.{Contents}
 use Rattle.uvl_base.specs.declared.fault.FaultKind.{FaultKind}
+use Rattle.uvl_base.specs.declared.place.Place.{Place}
 use Rattle.uvl_model.specs.Tree.{Tree}
 use Rattle.uvl_run.specs.declared.status.Status.{Status}
 use Rattle.uvl_run.specs.declared.status.Status.TheVariants.{Done, Usage, Model, ReadFault, WriteFault, OverBudget, NoMemory, TooMuchInput}
 use Rattle.uvl_run.specs.Budget.{nodes_for, budget_line}
 use Rattle.uvl_run.specs.CommandLine.{Request, request_of, usage_line}
-use Rattle.uvl_run.specs.Loading.{LoadsModel, LoadsFault, at_front}
+use Rattle.uvl_run.specs.Loading.{LoadsModel, LoadsFault, fault_in}
 use Rattle.uvl_run.specs.Run.{RunWrites, IsFrontOfRun, IsFaulty, IsOverBudget, IsAccepted, EndsRun, Answers, fault_line}
 use Rattle.uvl_run.specs.Script.{AnswersModel, AnswersScript, EndsScript}
 use Rattle.uvl_run.specs.Status.{PutsLast}
@@ -40,10 +41,10 @@ refused words told input w w' status none put =
     says_once words told input w w' usage_line Usage status (inl (none, refl, refl)) (none, refl, refl) put
 
 -- the model has a fault
-pub faulty : (words : List (List ℕ)) (told : Option Contents) (input w w' : Option (List ℕ)) (status : Status) (request : Request) (kind : FaultKind) → request_of words ≡ Some request → LoadsFault told request.path kind → PutsLast w w' (fault_line (at_front request.path kind)) Model status → Answers words told input input w w' status
-faulty words told input w w' status request kind named fault put =
-    let is : IsFaulty words told request kind = record { named = named; faulty = fault } in
-    says_once words told input w w' (fault_line (at_front request.path kind)) Model status (inr (inl (request, kind, is, refl, refl))) (request, kind, is, refl, refl) put
+pub faulty : (words : List (List ℕ)) (told : Option Contents) (input w w' : Option (List ℕ)) (status : Status) (request : Request) (place : Place) (kind : FaultKind) → request_of words ≡ Some request → LoadsFault told request.path place kind → PutsLast w w' (fault_line (fault_in request.path place kind)) Model status → Answers words told input input w w' status
+faulty words told input w w' status request place kind named fault put =
+    let is : IsFaulty words told request place kind = record { named = named; faulty = fault } in
+    says_once words told input w w' (fault_line (fault_in request.path place kind)) Model status (inr (inl (request, place, kind, is, refl, refl))) (request, place, kind, is, refl, refl) put
 
 -- the budget is too small for the model
 over_budget : (words : List (List ℕ)) (told : Option Contents) (input w w' : Option (List ℕ)) (status : Status) (request : Request) (tree : Tree) → request_of words ≡ Some request → LoadsModel told request.path tree → request.budget < nodes_for tree → PutsLast w w' budget_line OverBudget status → Answers words told input input w w' status

@@ -2,6 +2,7 @@
 use Rattle.std.specs.Prelude.{◌≡◌, ℕ, ◌<◌, ◌≤◌, ◌⊎◌, List, [], ◌∷◌, length, Option, Some, IfSome}
 use Rattle.uvl_outside.specs.Files.{Contents}
 use Rattle.uvl_base.specs.declared.fault.FaultKind.{FaultKind}
+use Rattle.uvl_base.specs.declared.place.Place.{Place}
 use Rattle.uvl_model.specs.Tree.{Tree}
 use Rattle.uvl_run.specs.declared.status.Status.{Status}
 use Rattle.uvl_run.specs.declared.status.Status.TheVariants.{Done, Usage, Model, ReadFault, WriteFault, OverBudget, NoMemory, TooMuchInput}
@@ -42,15 +43,16 @@ pub record HasFaultyModel (words : List (List ℕ)) (told : Option Contents) : T
   pub named : request_of words ≡ Some request
   pub contents : Contents
   pub tells : told ≡ Some contents
+  pub place : Place
   pub kind : FaultKind
-  pub is : HasFault (contents request.path) kind
+  pub is : HasFault (contents request.path) place kind
 
 -- Each status of a run that ends by itself comes only where its cause is, and where its cause is it comes
 -- unless a fault that was counted or want of memory is in its way.
 pub record IsExact (words : List (List ℕ)) (told : Option Contents) (input : Option (List ℕ)) (status : Status) : Type 0 where
   pub usage_only : status ≡ Usage → IsRefused words
   pub usage_where : IsRefused words → IsOneOf status (Usage ∷ WriteFault ∷ NoMemory ∷ [])
-  pub model_only : status ≡ Model → (request : Request) × (kind : FaultKind) × IsFaulty words told request kind
+  pub model_only : status ≡ Model → (request : Request) × (place : Place) × (kind : FaultKind) × IsFaulty words told request place kind
   pub model_where : HasFaultyModel words told → IsOneOf status (Model ∷ ReadFault ∷ WriteFault ∷ NoMemory ∷ [])
   pub over_budget_only : status ≡ OverBudget → (tree : Tree) × IsOverBudget words told tree
   pub over_budget_where : HasModelOverBudget words told → IsOneOf status (OverBudget ∷ ReadFault ∷ WriteFault ∷ NoMemory ∷ [])

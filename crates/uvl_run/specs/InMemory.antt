@@ -2,13 +2,14 @@
 use Rattle.std.specs.Prelude.{◌≡◌, ℕ, ◌<◌, ◌≤◌, ⊤, List, length, take, Some}
 use Rattle.uvl_outside.specs.Files.{Contents}
 use Rattle.uvl_base.specs.declared.fault.FaultKind.{FaultKind}
+use Rattle.uvl_base.specs.declared.place.Place.{Place}
 use Rattle.uvl_model.specs.Tree.{Tree}
 use Rattle.uvl_run.specs.declared.status.Status.{Status}
 use Rattle.uvl_run.specs.declared.status.Status.TheVariants.{Done, Usage, Model, ReadFault, WriteFault, OverBudget, NoMemory, TooMuchInput}
 use Rattle.uvl_run.specs.Budget.{nodes_for, budget_line}
 use Rattle.uvl_run.specs.CommandLine.{Request, request_of, usage_line}
 use Rattle.uvl_run.specs.Lines.{ended_lines, script_lines}
-use Rattle.uvl_run.specs.Loading.{IsModelOf, HasFault, at_front}
+use Rattle.uvl_run.specs.Loading.{IsModelOf, HasFault, fault_in}
 use Rattle.uvl_run.specs.Replies.{replies_to}
 use Rattle.uvl_run.specs.Run.{IsRefused, fault_line}
 use Rattle.uvl_run.specs.Script.{most_script_bytes}
@@ -33,8 +34,8 @@ IsRun words contents script said Done =
     (tree : Tree) × NamesModel words contents tree (Suffices tree) × (length script ≤ most_script_bytes) × (said ≡ replies_to tree (script_lines script))
 IsRun words contents script said Usage = IsRefused words × (said ≡ usage_line)
 IsRun words contents script said Model =
-    (request : Request) × (kind : FaultKind) × (request_of words ≡ Some request) × HasFault (contents request.path) kind
-    × (said ≡ fault_line (at_front request.path kind))
+    (request : Request) × (place : Place) × (kind : FaultKind) × (request_of words ≡ Some request)
+    × HasFault (contents request.path) place kind × (said ≡ fault_line (fault_in request.path place kind))
 IsRun words contents script said ReadFault = ⊥
 IsRun words contents script said WriteFault = ⊥
 IsRun words contents script said OverBudget = (tree : Tree) × NamesModel words contents tree (IsTooSmall tree) × (said ≡ budget_line)

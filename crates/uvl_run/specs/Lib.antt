@@ -15,7 +15,3 @@ pub mod ReplyTexts
 pub mod Run
 pub mod Script
 pub mod Status
-pub mod ThinFault
-pub mod ThinFile
-pub mod ThinParts
-pub mod ThinReading

@@ -6,13 +6,14 @@ use Rattle.uvl_outside.specs.Faults.{one_more}
 use Rattle.uvl_outside.specs.Files.{Contents}
 use Rattle.uvl_base.specs.declared.fault.FaultKind.{FaultKind}
 use Rattle.uvl_base.specs.declared.fault.ModelFault.{ModelFault}
+use Rattle.uvl_base.specs.declared.place.Place.{Place}
 use Rattle.uvl_base.specs.Fault.{fault_text}
 use Rattle.uvl_model.specs.Tree.{Tree}
 use Rattle.uvl_run.specs.declared.status.Status.{Status}
 use Rattle.uvl_run.specs.declared.status.Status.TheVariants.{Done, Usage, Model, ReadFault, WriteFault, OverBudget, NoMemory, TooMuchInput}
 use Rattle.uvl_run.specs.Budget.{nodes_for, budget_line}
 use Rattle.uvl_run.specs.CommandLine.{Request, request_of, usage_line}
-use Rattle.uvl_run.specs.Loading.{LoadsModel, LoadsFault, at_front}
+use Rattle.uvl_run.specs.Loading.{LoadsModel, LoadsFault, fault_in}
 use Rattle.uvl_run.specs.Script.{IsFrontOf, AreRepliesTo, EndsScript}
 use Rattle.uvl_run.specs.Status.{is_read_fault}
 
@@ -34,10 +35,10 @@ pub record IsOverBudget (words : List (List ℕ)) (told : Option Contents) (tree
   pub loads : LoadsModel told request.path tree
   pub short : request.budget < nodes_for tree
 
--- the words name a model, and it has the fault
-pub record IsFaulty (words : List (List ℕ)) (told : Option Contents) (request : Request) (kind : FaultKind) : Type 0 where
+-- the words name a model, and it has the fault there
+pub record IsFaulty (words : List (List ℕ)) (told : Option Contents) (request : Request) (place : Place) (kind : FaultKind) : Type 0 where
   pub named : request_of words ≡ Some request
-  pub faulty : LoadsFault told request.path kind
+  pub faulty : LoadsFault told request.path place kind
 
 -- what is written of a fault of the model
 unfoldable pub fault_line : ModelFault → List ℕ
@@ -47,7 +48,8 @@ fault_line fault = codes "fault " ++ fault_text fault ++ codes "\n"
 abbrev pub RunWrites : List (List ℕ) → Option Contents → Option (List ℕ) → List ℕ → List ℕ → Type 0
 RunWrites words told input taken text =
     (IsRefused words × (taken ≡ []) × (text ≡ usage_line))
-    ⊎ ((request : Request) × (kind : FaultKind) × IsFaulty words told request kind × (taken ≡ []) × (text ≡ fault_line (at_front request.path kind)))
+    ⊎ ((request : Request) × (place : Place) × (kind : FaultKind) × IsFaulty words told request place kind × (taken ≡ [])
+    × (text ≡ fault_line (fault_in request.path place kind)))
     ⊎ ((tree : Tree) × IsOverBudget words told tree × (taken ≡ []) × (text ≡ budget_line))
     ⊎ ((tree : Tree) × IsAccepted words told tree × AreRepliesTo tree input taken text)
 
@@ -64,7 +66,8 @@ abbrev pub EndsRun : List (List ℕ) → Option Contents → Option (List ℕ) �
 EndsRun words told input taken said Done = (tree : Tree) × IsAccepted words told tree × EndsScript tree input taken said Done
 EndsRun words told input taken said Usage = IsRefused words × (taken ≡ []) × (said ≡ usage_line)
 EndsRun words told input taken said Model =
-    (request : Request) × (kind : FaultKind) × IsFaulty words told request kind × (taken ≡ []) × (said ≡ fault_line (at_front request.path kind))
+    (request : Request) × (place : Place) × (kind : FaultKind) × IsFaulty words told request place kind × (taken ≡ [])
+    × (said ≡ fault_line (fault_in request.path place kind))
 EndsRun words told input taken said ReadFault =
     ((request : Request) × (request_of words ≡ Some request) × IsUntouched taken said)
     ⊎ ((tree : Tree) × IsAccepted words told tree × EndsScript tree input taken said ReadFault)

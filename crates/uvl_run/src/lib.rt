@@ -11,12 +11,11 @@ mod load;
 mod reply;
 mod script;
 mod status;
-mod thin;
 mod top;
 
 pub use in_memory::run_in_memory;
 pub use laws::{
-    every_script_has_one_cut, the_command_line_has_these_forms, thin_files_have_one_tree,
+    every_content_is_loaded_once, every_script_has_one_cut, the_command_line_has_these_forms,
 };
 pub use status::Status;
 pub use top::run;

@@ -1,18 +1,22 @@
-//! The loading of the model.
-ghost use Rattle.std.specs.Prelude.{◌≡◌, IfOk, IfErr, Bool};
+//! The loading of the model: a file's bytes, their text, its tokens, their syntax, and the model that it says.
+ghost use Rattle.std.specs.Prelude.{◌≡◌, ◌≤◌, length, IfOk, IfErr, IfSome, Bool};
+ghost use Rattle.uvl_ast.specs.Depth.{depth_of};
+ghost use Rattle.uvl_ast.specs.Members.{EachGroupHasMembers};
 ghost use Rattle.uvl_outside.specs.Faults.{Counts};
-ghost use Rattle.uvl_model.specs.Tree.{Tree};
-ghost use Rattle.uvl_model.specs.Spelling.{Spells};
 ghost use Rattle.uvl_model.specs.OptionalGroups.{GroupsAreMandatoryOrOptional};
-ghost use Rattle.uvl_run.specs.Loading.{LoadsModel};
-ghost use Rattle.uvl_run.specs.ThinFile.{IsThinFile};
-ghost use Rattle.uvl_run.specs.LoadFaults.{IsCauseOf, IsCauseIn, load_failed};
+ghost use Rattle.uvl_model.specs.Spelling.{Spells};
+ghost use Rattle.uvl_model.specs.Tree.{Tree};
+ghost use Rattle.uvl_run.specs.LoadFaults.{IsCauseOf, IsCauseIn, load_failed, of_whole_file};
+ghost use Rattle.uvl_run.specs.Loading.{IsFileOf, LoadsModel, SaysTree};
 
-use crate::thin::{ThinFault, read_thin};
-use std::alloc::{AllocError, Global};
-use uvl_base::FaultKind;
+use std::alloc::Global;
+use uvl_ast::File;
+use uvl_base::{FaultKind, Place};
+use uvl_lexer::{LexFault, lex, tokens_are_a_list};
 use uvl_model::Model;
 use uvl_outside::{FetchFault, Fetched, Files};
+use uvl_parser::{ParseFault, parse};
+use uvl_resolve::{ResolveFault, files_are_built_or_have_a_cause, files_have_one_tree, resolve};
 
 /// The most bytes of one file.
 const MOST_FILE_BYTES: usize = 8_388_608;
@@ -21,10 +25,62 @@ const MOST_FILE_BYTES: usize = 8_388_608;
 #[derive(Clone, Copy, Debug, PartialEq, Eq)]
 pub(crate) enum LoadFault {
     /// The model has a fault.
-    Model(FaultKind),
+    Model { place: Place, kind: FaultKind },
     /// The host failed, which was counted.
     Host,
     OutOfMemory,
+}
+
+impl LoadFault {
+    /// A fault of a file as a whole stands at its first place.
+    fn of_whole_file(kind: FaultKind) -> LoadFault
+        ensures { result ≡ of_whole_file kind }
+    {
+        let place = Place { line: 1, column: 1 };
+        LoadFault::Model { place, kind }
+    }
+}
+
+impl From<LexFault> for LoadFault {
+    ghost use Rattle.std.specs.Prelude.{◌≡◌};
+    ghost use Rattle.uvl_run.specs.LoadFaults.{of_lexer};
+
+    ghost from_gives = { λ fault load_fault. load_fault ≡ of_lexer fault };
+
+    fn from(fault: LexFault) -> LoadFault {
+        match fault {
+            LexFault::At { place, kind } => LoadFault::Model { place, kind },
+            LexFault::OutOfMemory => LoadFault::OutOfMemory,
+        }
+    }
+}
+
+impl From<ParseFault> for LoadFault {
+    ghost use Rattle.std.specs.Prelude.{◌≡◌};
+    ghost use Rattle.uvl_run.specs.LoadFaults.{of_parser};
+
+    ghost from_gives = { λ fault load_fault. load_fault ≡ of_parser fault };
+
+    fn from(fault: ParseFault) -> LoadFault {
+        match fault {
+            ParseFault::At { place, kind } => LoadFault::Model { place, kind },
+            ParseFault::OutOfMemory => LoadFault::OutOfMemory,
+        }
+    }
+}
+
+impl From<ResolveFault> for LoadFault {
+    ghost use Rattle.std.specs.Prelude.{◌≡◌};
+    ghost use Rattle.uvl_run.specs.LoadFaults.{of_resolution};
+
+    ghost from_gives = { λ fault load_fault. load_fault ≡ of_resolution fault };
+
+    fn from(fault: ResolveFault) -> LoadFault {
+        match fault {
+            ResolveFault::NotBuilt => LoadFault::of_whole_file(FaultKind::NotBuilt),
+            ResolveFault::OutOfMemory => LoadFault::OutOfMemory,
+        }
+    }
 }
 
 /// The model in the file at `path`.
@@ -42,22 +98,40 @@ pub(crate) fn load_model<F: Files>(
     let mut bytes = Vec::new(alloc);
     match files.fetch(alloc, path, MOST_FILE_BYTES, &mut bytes) {
         Ok(Fetched::Whole) => model_in(alloc, &bytes),
-        Ok(Fetched::Absent) => Err(LoadFault::Model(FaultKind::Absent)),
-        Ok(Fetched::TooLong) => Err(LoadFault::Model(FaultKind::TooLong)),
+        Ok(Fetched::Absent) => Err(LoadFault::of_whole_file(FaultKind::Absent)),
+        Ok(Fetched::TooLong) => Err(LoadFault::of_whole_file(FaultKind::TooLong)),
         Err(FetchFault::Failed) => Err(LoadFault::Host),
         Err(FetchFault::OutOfMemory) => Err(LoadFault::OutOfMemory),
     }
 }
 
-/// The model that a file's bytes spell.
+/// The model that a file's bytes say.
 fn model_in(alloc: Global, bytes: &[u8]) -> Result<Model, LoadFault>
-    ensures model { IfOk result (λ model. (tree : Tree) × Spells tree model × IsThinFile bytes.now tree) }
+    requires { length bytes.now ≤ 8388608 }
+    ensures model { IfOk result (λ model. (tree : Tree) × Spells tree model × SaysTree bytes.now tree) }
     ensures groups { IfOk result GroupsAreMandatoryOrOptional }
     ensures fault { IfErr result (IsCauseIn bytes.now) }
 {
-    match read_thin(alloc, bytes) {
-        Ok(model) => Ok(model),
-        Err(ThinFault::NotThin) => Err(LoadFault::Model(FaultKind::NotBuilt)),
-        Err(ThinFault::OutOfMemory) => Err(LoadFault::OutOfMemory),
-    }
+    // Laws, which are facts for the proof.
+    files_have_one_tree();
+    files_are_built_or_have_a_cause();
+    let file = file_in(alloc, bytes)?;
+    Ok(resolve(alloc, &file)?)
+}
+
+/// The syntax of a file's bytes.
+fn file_in(alloc: Global, bytes: &[u8]) -> Result<File, LoadFault>
+    requires { length bytes.now ≤ 8388608 }
+    ensures file { IfOk result (IsFileOf bytes.now) }
+    ensures shallow { IfOk result (λ file. IfSome file.root (λ root. depth_of root ≤ 64)) }
+    ensures members { IfOk result (λ file. IfSome file.root EachGroupHasMembers) }
+    ensures fault { IfErr result (IsCauseIn bytes.now) }
+{
+    // A law, which is a fact for the proof.
+    tokens_are_a_list();
+    let Ok(text) = str::from_utf8(bytes) else {
+        return Err(LoadFault::of_whole_file(FaultKind::NotUtf8));
+    };
+    let tokens = lex(alloc, text)?;
+    Ok(parse(alloc, &tokens)?)
 }

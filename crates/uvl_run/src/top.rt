@@ -6,7 +6,7 @@ ghost use Rattle.uvl_model.specs.Tree.{Tree};
 ghost use Rattle.uvl_model.specs.OptionalGroups.{GroupsAreMandatoryOrOptional};
 ghost use Rattle.uvl_run.specs.CommandLine.{request, request_of};
 ghost use Rattle.uvl_run.specs.Exactly.{IsExact};
-ghost use Rattle.uvl_run.specs.Loading.{at_front};
+ghost use Rattle.uvl_run.specs.Loading.{fault_in};
 ghost use Rattle.uvl_run.specs.Run.{Answers, CountsReads, fault_line};
 ghost use Rattle.uvl_run.specs.Script.{AnswersModel};
 ghost use Rattle.uvl_run.specs.Status.{PutsLast, is_read_fault, is_write_fault};
@@ -14,6 +14,7 @@ ghost use Rattle.uvl_run.specs.Status.{PutsLast, is_read_fault, is_write_fault};
 use crate::Status;
 use crate::command_line::{USAGE_LINE, read_words};
 use crate::compiled::Compiled;
+use crate::laws::every_content_is_loaded_once;
 use crate::load::{LoadFault, load_model};
 use crate::script::answer_script;
 use std::alloc::{AllocError, Global};
@@ -48,6 +49,8 @@ pub fn run<F: Files, S: Source, K: Sink>(
     ensures writes_counted { Counts (K.faults out.old) (K.faults out.new) (is_write_fault result) }
     ensures same_files { F.told files.new ≡ F.told files.old }
 {
+    // A law, which is a fact for the proof.
+    every_content_is_loaded_once();
     answer_words(alloc, words, files, input, out)
 }
 
@@ -90,7 +93,7 @@ fn answer_model<F: Files, S: Source, K: Sink>(
 {
     match load_model(alloc, files, path) {
         Ok(model) => answer_by_model(alloc, model, budget, input, out),
-        Err(LoadFault::Model(kind)) => report(alloc, path, kind, out),
+        Err(LoadFault::Model { place, kind }) => report(alloc, path, place, kind, out),
         Err(LoadFault::Host) => Status::ReadFault,
         Err(LoadFault::OutOfMemory) => Status::NoMemory,
     }
@@ -130,25 +133,24 @@ fn is_over_budget(model: &Model, budget: u32) -> bool
     (budget as usize) < NODES_FOR_A_FEATURE * model.features().len()
 }
 
-/// Writes the fault line of a fault at the front of a file.
-fn report<K: Sink>(alloc: Global, path: &str, kind: FaultKind, out: &mut K) -> Status
-    ensures line { PutsLast (K.written out.old) (K.written out.new) (fault_line (at_front path.now kind)) Status.Model result }
+/// Writes the fault line of a fault of the file at `path`.
+fn report<K: Sink>(alloc: Global, path: &str, place: Place, kind: FaultKind, out: &mut K) -> Status
+    ensures line { PutsLast (K.written out.old) (K.written out.new) (fault_line (fault_in path.now place kind)) Status.Model result }
     ensures counted { Counts (K.faults out.old) (K.faults out.new) (is_write_fault result) }
     ensures no_read { IsFalse (is_read_fault result) }
 {
-    match line_of(alloc, path, kind) {
+    match line_of(alloc, path, place, kind) {
         Ok(line) => write_last(alloc, line.as_str(), Status::Model, out),
         Err(_) => Status::NoMemory,
     }
 }
 
-/// The fault line of a fault at the front of a file.
+/// The fault line of a fault of the file at `path`.
 #[tactic(auto, unfolding(crate::specs::Run::fault_line))]
-fn line_of(alloc: Global, path: &str, kind: FaultKind) -> Result<String, AllocError>
-    ensures { IfOk result (λ line. string_bytes line ≡ fault_line (at_front path.now kind)) }
+fn line_of(alloc: Global, path: &str, place: Place, kind: FaultKind) -> Result<String, AllocError>
+    ensures { IfOk result (λ line. string_bytes line ≡ fault_line (fault_in path.now place kind)) }
 {
     let file = Text::new(alloc, path)?;
-    let place = Place { line: 1, column: 1 };
     let fault = ModelFault { file, place, kind };
     format!(in alloc; "fault {fault}\n")
 }

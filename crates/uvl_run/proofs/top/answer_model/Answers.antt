@@ -10,7 +10,7 @@ returns-in-Ok-clause-answers g c = λ words named.
 
 pub returns-in-Err-Model-clause-answers : goal.returns-in-Err-Model-clause-answers
 returns-in-Err-Model-clause-answers g c = λ words named.
-    faulty words _ _ _ _ c.report.result (request c.args.path.now c.args.budget) c.in-Err-Model.kind named (rw c.in-Err-Model.field-0-is at c.in-Err-Model.ensures.fault) c.report.ensures.line
+    faulty words _ _ _ _ c.report.result (request c.args.path.now c.args.budget) c.in-Err-Model.place c.in-Err-Model.kind named (rw c.in-Err-Model.field-0-is at c.in-Err-Model.ensures.fault) c.report.ensures.line
 
 pub returns-in-Err-Host-clause-answers : goal.returns-in-Err-Host-clause-answers
 returns-in-Err-Host-clause-answers g c = λ words named. host_failed words _ _ _ (request c.args.path.now c.args.budget) named

@@ -1,0 +1,53 @@
+-- What the answers of the layers say of the bytes of a file.
+use Rattle.std.proofs.Common.{◌≡◌, ℕ, List, Err, inl, inr, refl, subst}
+use Rattle.std.specs.Prelude.{chars, IsErrOf}
+use Rattle.std.specs.Str.{IsUtf8}
+use Rattle.uvl_lexer.specs.declared.fault.LexFault.{LexFault}
+use Rattle.uvl_lexer.specs.declared.fault.LexFault.TheVariants as lexing
+use Rattle.uvl_lexer.specs.declared.token.Token.{Token}
+use Rattle.uvl_lexer.specs.Layout.{Tokens, Stops}
+use Rattle.uvl_lexer.specs.Reading as lexer
+use Rattle.uvl_ast.specs.declared.file.File.{File}
+use Rattle.uvl_parser.specs.declared.fault.ParseFault.{ParseFault}
+use Rattle.uvl_parser.specs.declared.fault.ParseFault.TheVariants as parsing
+use Rattle.uvl_parser.specs.Parsing.{IsRefusedAt}
+use Rattle.uvl_parser.specs.Parsing as parser
+use Rattle.uvl_model.specs.Tree.{Tree, names_of}
+use Rattle.uvl_resolve.specs.declared.fault.ResolveFault.{ResolveFault}
+use Rattle.uvl_resolve.specs.declared.fault.ResolveFault.TheVariants as resolving
+use Rattle.uvl_resolve.specs.Built.{AreModelNames, IsBuilt}
+use Rattle.uvl_resolve.specs.Causes.{HasCause}
+use Rattle.uvl_resolve.specs.Laws.{FilesHaveOneTree, FilesAreBuiltOrHaveACause}
+use Rattle.uvl_resolve.specs.TreeOf.{IsTreeOf}
+use Rattle.uvl_run.specs.Loading.{AreTokensOf, IsFileOf, SaysTree, no_tokens, no_file, no_model}
+use Rattle.uvl_run.specs.LoadFaults.{IsCauseIn, of_lexer, of_parser, of_resolution}
+
+-- the tokens of a text are those of its bytes
+pub tokens_of : (bytes text : List ℕ) (tokens : List Token) → text ≡ bytes → IsUtf8 bytes → Tokens (chars text) tokens → AreTokensOf bytes tokens
+tokens_of bytes text tokens same utf8 read = let P : List ℕ → Type 0 = λ t. Tokens (chars t) tokens in record { utf8 = utf8; read = subst P same read }
+
+-- where the lexer finds a fault, the text stops
+pub cause_of_lexer : (bytes : List ℕ) → IsUtf8 bytes → (fault : LexFault) → lexer.OnFault fault (λ place kind. Stops (chars bytes) place kind) → IsCauseIn bytes (of_lexer fault)
+cause_of_lexer bytes utf8 (lexing.At place kind) stops = no_tokens utf8 stops
+cause_of_lexer bytes utf8 lexing.OutOfMemory stops = tt
+
+-- where the parser finds one, the tokens are refused
+pub cause_of_parser : (bytes : List ℕ) (tokens : List Token) → AreTokensOf bytes tokens → (fault : ParseFault) → parser.OnFault fault (λ place kind. IsRefusedAt tokens place kind) → IsCauseIn bytes (of_parser fault)
+cause_of_parser bytes tokens read (parsing.At place kind) refused = no_file tokens read refused
+cause_of_parser bytes tokens read parsing.OutOfMemory refused = tt
+
+-- where no model is made, there is a cause
+pub cause_of_resolution : (bytes : List ℕ) (file : File) → IsFileOf bytes file → (fault : ResolveFault) → (fault ≡ resolving.NotBuilt → HasCause file) → IsCauseIn bytes (of_resolution fault)
+cause_of_resolution bytes file written resolving.NotBuilt cause = no_model file written (cause refl) (refl, refl)
+cause_of_resolution bytes file written resolving.OutOfMemory cause = tt
+
+-- a file against which there is no cause is built
+pub built : FilesAreBuiltOrHaveACause → (file : File) → (HasCause file → ⊥) → IsBuilt file
+built law file none = elim (law file).0 [ inl is ↦ is | inr cause ↦ absurd (none cause) ]
+
+-- bytes of a file that says a tree, against which there is no cause, say the tree
+pub says_tree : FilesHaveOneTree → FilesAreBuiltOrHaveACause → (bytes : List ℕ) (file : File) (tree : Tree) → IsFileOf bytes file → (HasCause file → ⊥) → IsTreeOf file tree → SaysTree bytes tree
+says_tree one law bytes file tree written none says =
+    let is = built law file none in
+    let P : Tree → Type 0 = λ t. AreModelNames (names_of t) in
+    record { file = file; written = written; says = says; names = subst P (one file is.tree tree is.of_file says) is.names }
