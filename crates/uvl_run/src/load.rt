@@ -12,7 +12,7 @@ ghost use Rattle.uvl_run.specs.Loading.{IsFileOf, LoadsModel, SaysTree};
 use std::alloc::Global;
 use uvl_ast::File;
 use uvl_base::{FaultKind, Place};
-use uvl_lexer::{LexFault, lex, tokens_are_a_list};
+use uvl_lexer::{LexFault, lex};
 use uvl_model::Model;
 use uvl_outside::{FetchFault, Fetched, Files};
 use uvl_parser::{ParseFault, parse};
@@ -127,8 +127,6 @@ fn file_in(alloc: Global, bytes: &[u8]) -> Result<File, LoadFault>
     ensures members { IfOk result (λ file. IfSome file.root EachGroupHasMembers) }
     ensures fault { IfErr result (IsCauseIn bytes.now) }
 {
-    // A law, which is a fact for the proof.
-    tokens_are_a_list();
     let Ok(text) = str::from_utf8(bytes) else {
         return Err(LoadFault::of_whole_file(FaultKind::NotUtf8));
     };
