@@ -1,6 +1,6 @@
 -- What the answers of the layers say of the bytes of a file.
-use Rattle.std.proofs.Common.{◌≡◌, ℕ, List, Err, inl, inr, refl, subst}
-use Rattle.std.specs.Prelude.{chars, IsErrOf}
+use Rattle.std.proofs.Common.{◌≡◌, ℕ, List, inl, inr, refl, subst}
+use Rattle.std.specs.Prelude.{chars}
 use Rattle.std.specs.Str.{IsUtf8}
 use Rattle.uvl_lexer.specs.declared.fault.LexFault.{LexFault}
 use Rattle.uvl_lexer.specs.declared.fault.LexFault.TheVariants as lexing

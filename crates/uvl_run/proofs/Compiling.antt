@@ -1,22 +1,19 @@
 -- Variables that are numbered in order stand in order, and a diagram tells products.
-use Rattle.std.proofs.Common.{◌≡◌, ℕ, zero, suc, ◌+◌, ◌<◌, Bool, true, false, not, List, [], ◌∷◌, ◌++◌, length, Some, None, ◌⊎◌, inl, inr, refl, sym, ap, ◌∙◌, subst, arith}
-use Rattle.std.specs.List.{All}
+use Rattle.std.proofs.Common.{◌≡◌, ℕ, ◌<◌, Bool, true, false, not, List, length, Some, None, sym, ap, ◌∙◌, arith}
 use Rattle.std.proofs.lemmas.Bool.{false≢true, false_from_ne_true}
 use Rattle.std.proofs.lemmas.List.{length-map}
 use Rattle.dd_store.specs.Follow.{assignment_of}
 use Rattle.dd_store.specs.declared.row.Var.{Var}
 use Rattle.dd_store.specs.Order.{level_in}
 use Rattle.dd_store.specs.Table.{Table, value_of}
-use Rattle.uvl_model.specs.declared.rows.FeatureNo.{FeatureNo}
-use Rattle.uvl_model.specs.declared.rows.GroupRow.{GroupRow}
 use Rattle.uvl_model.specs.Laws.{RowsGiveNames, MarksGiveProducts, VoidTreesHaveNoProduct, MarksTellVoidTrees}
 use Rattle.uvl_model.specs.Marks.{StandFor}
 use Rattle.uvl_model.specs.Names.{marked}
 use Rattle.uvl_model.specs.Product.{is_product}
 use Rattle.uvl_model.specs.Rows.{Rows}
 use Rattle.uvl_model.specs.Sound.{IsSound}
-use Rattle.uvl_model.specs.Spelling.{Spells, size_of, size_of_members, member_numbers, group_rows, group_rows_of_groups, group_rows_of_members}
-use Rattle.uvl_model.specs.Tree.{Tree, Groups, Members, feature, no_groups, group, no_members, member, member_count, names_of}
+use Rattle.uvl_model.specs.Spelling.{Spells, size_of}
+use Rattle.uvl_model.specs.Tree.{Tree, names_of}
 use Rattle.uvl_model.specs.Void.{is_void}
 use Rattle.uvl_compile.specs.Chosen.{chosen_under}
 use Rattle.uvl_compile.specs.Laws.{MarksChooseFeatures}

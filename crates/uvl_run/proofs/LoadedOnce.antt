@@ -1,5 +1,5 @@
 -- Whatever is at a path, it is the model of one tree or has one fault: this follows from the laws of the layers.
-use Rattle.std.proofs.Common.{◌≡◌, ℕ, ◌<◌, ◌≤◌, ◌⊎◌, Bool, true, false, List, length, Option, Some, None, inl, inr, refl, sym, ◌∙◌, subst, arith}
+use Rattle.std.proofs.Common.{◌≡◌, ℕ, ◌<◌, ◌≤◌, ◌⊎◌, Bool, true, false, List, length, Some, None, inl, inr, refl, sym, ◌∙◌, subst, arith}
 use Rattle.std.proofs.lemmas.Bool.{ltb-true, ltb-false}
 use Rattle.std.proofs.lemmas.Option.{same_Some}
 use Rattle.std.proofs.lemmas.Str.{IsUtf8-from_is_utf8, is_utf8-from_IsUtf8}
@@ -10,7 +10,6 @@ use Rattle.uvl_base.specs.declared.fault.FaultKind.TheVariants.{Absent, TooLong,
 use Rattle.uvl_base.specs.declared.place.Place.{Place}
 use Rattle.uvl_lexer.specs.declared.token.Token.{Token}
 use Rattle.uvl_lexer.specs.Law.{HasTokens, HasStop, EachTextIsReadOnce}
-use Rattle.uvl_lexer.specs.Layout.{Tokens}
 use Rattle.uvl_lexer.specs.TokenList.{TokensAreAList}
 use Rattle.uvl_ast.specs.declared.file.File.{File}
 use Rattle.uvl_parser.specs.Parsing.{IsParsedAs, IsRefusedAt, HasFile, HasRefusal, EachTokenListIsParsedOnce}
@@ -20,7 +19,7 @@ use Rattle.uvl_resolve.specs.Causes.{HasCause}
 use Rattle.uvl_resolve.specs.Laws.{FilesHaveOneTree, FilesAreBuiltOrHaveACause}
 use Rattle.uvl_resolve.specs.TreeOf.{IsTreeOf}
 use Rattle.uvl_run.specs.Laws.{HasOneTree, HasOneFault, EachContentIsLoadedOnce}
-use Rattle.uvl_run.specs.Loading.{most_file_bytes, first_place, AreTokensOf, IsFileOf, SaysTree, IsOfWholeFile, HasFaultIn, no_text, no_tokens, no_file, no_model, IsModelOf, HasFault}
+use Rattle.uvl_run.specs.Loading.{most_file_bytes, first_place, IsFileOf, SaysTree, HasFaultIn, no_text, no_tokens, no_file, no_model, IsModelOf}
 use Rattle.uvl_run.proofs.Loads.{fault_within, within_fault, fault_beyond, beyond_fault}
 
 -- the bytes have the fault, that fault alone, and say no tree
