@@ -5,4 +5,5 @@ pub mod Growing
 pub mod Rows
 pub mod Entries
 pub mod Limits
-pub mod ThreeVariables
+pub mod ThinRows
+pub mod Numbered

@@ -6,9 +6,11 @@ mod laws;
 mod outline;
 mod products;
 mod row;
+mod variables;
 
 pub use laws::{marks_choose_features, outline_tells_products};
 pub use products::compile;
+pub use variables::add_variables;
 
 #[cfg(test)]
 mod tests;

@@ -5,7 +5,7 @@ ghost use Rattle.uvl_model.specs.Examples.{thin_rows};
 ghost use Rattle.uvl_compile.specs.Row.{IsAscending};
 ghost use Rattle.uvl_model.specs.OptionalGroups.{GroupsAreMandatoryOrOptional};
 
-use crate::compile;
+use crate::{add_variables, compile};
 use dd_store::Store;
 use sqlite_items::Items;
 use std::alloc::Global;
@@ -72,9 +72,7 @@ fn three_variables(alloc: Global) -> Result<Store, Fail>
     ensures budget { IfOk result (λ store. store.budget ≡ 192) }
 {
     let mut store = Store::new(alloc, 192)?;
-    store.add_variable()?;
-    store.add_variable()?;
-    store.add_variable()?;
+    add_variables(&mut store, 3)?;
     Ok(store)
 }
 

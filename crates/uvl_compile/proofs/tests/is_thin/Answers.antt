@@ -1,5 +1,5 @@
 -- One group is mandatory, the other optional.
-use Rattle.uvl_compile.proofs.ThreeVariables.{thin_is_thin}
+use Rattle.uvl_compile.proofs.ThinRows.{thin_is_thin}
 use Rattle.uvl_compile.proofs.tests.is_thin.Goals as goal
 
 pub returns : goal.returns
