@@ -1,10 +1,8 @@
--- Variables that are numbered in order stand in order, and a diagram tells products.
-use Rattle.std.proofs.Common.{◌≡◌, ℕ, ◌<◌, Bool, true, false, not, List, length, Some, None, sym, ap, ◌∙◌, arith}
+-- A diagram tells the products of its model.
+use Rattle.std.proofs.Common.{◌≡◌, ℕ, Bool, true, false, not, List, length, Some, None, sym, ap, ◌∙◌}
 use Rattle.std.proofs.lemmas.Bool.{false≢true, false_from_ne_true}
 use Rattle.std.proofs.lemmas.List.{length-map}
 use Rattle.dd_store.specs.Follow.{assignment_of}
-use Rattle.dd_store.specs.declared.row.Var.{Var}
-use Rattle.dd_store.specs.Order.{level_in}
 use Rattle.dd_store.specs.Table.{Table, value_of}
 use Rattle.uvl_model.specs.Laws.{RowsGiveNames, MarksGiveProducts, VoidTreesHaveNoProduct, MarksTellVoidTrees}
 use Rattle.uvl_model.specs.Marks.{StandFor}
@@ -17,19 +15,11 @@ use Rattle.uvl_model.specs.Tree.{Tree, names_of}
 use Rattle.uvl_model.specs.Void.{is_void}
 use Rattle.uvl_compile.specs.Chosen.{chosen_under}
 use Rattle.uvl_compile.specs.Laws.{MarksChooseFeatures}
-use Rattle.uvl_compile.specs.Row.{IsAscending}
 use Rattle.uvl_run.specs.Compiled.{IsCompiled}
 
 -- a tree has as many features as its rows
 pub feature_count : RowsGiveNames → (tree : Tree) (model : Rows) → Spells tree model → length model.features ≡ size_of tree
 feature_count law tree model spelled = sym (length-map model.features (λ row. row.name)) ∙ ap length (law tree model spelled)
-
--- variables whose levels are their numbers stand in the order of their numbers
-pub ascending : (order : List Var) (n : ℕ) → length order ≡ n → ((v : ℕ) → v < length order → level_in order v ≡ v) → IsAscending order n
-ascending order n count leveled = record {
-  there = λ v inside. (let level = leveled v (omega arith) in omega arith);
-  ascending = λ v w before inside. (let first = leveled v (omega arith) in let second = leveled w (omega arith) in omega arith);
-}
 
 module _ (model : Rows) (t : Table) (products : ℕ) (compiled : IsCompiled model t products) (choose : MarksChooseFeatures) where
   -- the value under marks is whether what they mark is a product

@@ -1,18 +1,16 @@
 //! A model with the diagram of its products.
-ghost use Rattle.std.specs.Prelude.{◌≡◌, ◌+◌, ◌*◌, ◌≤◌, ◌<◌, ◌↔◌, ℕ, List, [], length, slice_get, is_some, IfOk, IfSome, OnOk, Some};
-ghost use Rattle.dd_store.specs.Table.{IsSound, level_of, node_count};
+ghost use Rattle.std.specs.Prelude.{◌≡◌, ◌*◌, ◌≤◌, ◌<◌, ◌↔◌, ℕ, List, length, slice_get, is_some, IfOk, IfSome, Some};
 ghost use Rattle.uvl_model.specs.Marks.{StandFor};
 ghost use Rattle.uvl_model.specs.Product.{has, is_product};
 ghost use Rattle.uvl_model.specs.Spelling.{Spells, numbered};
 ghost use Rattle.uvl_model.specs.Tree.{Tree, names_of};
 ghost use Rattle.uvl_model.specs.Void.{is_void};
-ghost use Rattle.uvl_compile.specs.Row.{IsAscending};
 ghost use Rattle.uvl_model.specs.OptionalGroups.{GroupsAreMandatoryOrOptional};
 
-use dd_store::{AddRefusal, Handle, Store};
+use dd_store::{Handle, Store};
 use std::alloc::{AllocError, Global};
 use uvl_base::Name;
-use uvl_compile::{compile, marks_choose_features};
+use uvl_compile::{add_variables, compile, marks_choose_features};
 use uvl_model::{FeatureNo, Model, marks_give_products, void_trees_have_no_product};
 
 /// A model, and a table of diagrams with that of its products. Contracts see the rows of the model.
@@ -95,36 +93,5 @@ impl Compiled {
             Some(value) => !value,
             None => false,
         }
-    }
-}
-
-/// Adds so many variables to a table that has none.
-fn add_variables(store: &mut Store, count: usize) -> Result<(), AllocError>
-    requires none { store.old.order ≡ [] }
-    requires few { count ≤ 2048 }
-    ensures count { OnOk result (length store.new.order ≡ count) }
-    ensures ascending { OnOk result (IsAscending store.new.order count) }
-    ensures nodes { OnOk result (node_count store.new ≡ node_count store.old) }
-    ensures budget { OnOk result (store.new.budget ≡ store.old.budget) }
-{
-    for _ in 0..count {
-        add_variable(store)?;
-    }
-    Ok(())
-}
-
-/// Adds a variable behind those that are there.
-fn add_variable(store: &mut Store) -> Result<(), AllocError>
-    requires few { length store.old.order < 4096 }
-    requires leveled { (v : ℕ) → v < length store.old.order → level_of store.old v ≡ v }
-    ensures count { OnOk result (length store.new.order ≡ length store.old.order + 1) }
-    ensures leveled { OnOk result ((v : ℕ) → v < length store.new.order → level_of store.new v ≡ v) }
-    ensures nodes { OnOk result (node_count store.new ≡ node_count store.old) }
-    ensures budget { OnOk result (store.new.budget ≡ store.old.budget) }
-{
-    match store.add_variable() {
-        Ok(_) => Ok(()),
-        Err(AddRefusal::TooManyVariables) => unreachable!(),
-        Err(AddRefusal::OutOfMemory) => Err(AllocError),
     }
 }
