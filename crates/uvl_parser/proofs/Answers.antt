@@ -1,6 +1,6 @@
 -- The clauses of a parser's callers, from what its answer says.
-use Rattle.std.specs.Prelude.{◌≡◌, ◌≤◌, Result, Ok, Err, IfOk, IfErr, IfSome, IsErr, List, Option, Some, None, IsTrue}
-use Rattle.std.proofs.Common.{refl, arith, rules}
+use Rattle.std.specs.Prelude.{◌≡◌, ◌≤◌, Result, Ok, Err, IfOk, IfErr, IfSome, IsErr, List, Option, Some, None}
+use Rattle.std.proofs.Common.{refl, rules}
 use Rattle.uvl_base.specs.declared.place.Place.{Place}
 use Rattle.uvl_base.specs.declared.fault.FaultKind.{FaultKind}
 use Rattle.uvl_lexer.specs.declared.token.Token.{Token}

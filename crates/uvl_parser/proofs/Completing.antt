@@ -1,13 +1,13 @@
 -- What is spelled is read: the other direction of what a reader keeps to, and how it goes through
 -- readers that are put together. A part is read whole where a rest follows at which such a part stops.
-use Rattle.std.specs.Prelude.{◌≡◌, ℕ, zero, suc, ◌<◌, ◌≤◌, ◌+◌, ◌⊎◌, Bool, true, false, cond, List, [], ◌∷◌, ◌++◌, length, Ok, Err, Option, Some, None}
+use Rattle.std.specs.Prelude.{◌≡◌, ℕ, zero, suc, ◌<◌, ◌≤◌, ◌+◌, true, false, cond, List, [], ◌∷◌, ◌++◌, length, Ok, Err, Option, Some}
 use Rattle.std.proofs.Common.{refl, sym, ap, subst, ◌∙◌, inl, inr, append_assoc, append-nil, arith, length-append}
 use Rattle.uvl_base.specs.declared.place.Place.{Place}
 use Rattle.uvl_lexer.specs.declared.token.Token.{Token}
 use Rattle.uvl_lexer.specs.declared.token.TokenKind.{TokenKind}
 use Rattle.uvl_parser.specs.Tests.{Test}
 use Rattle.uvl_parser.specs.Shapes.{Spelling, Repeated, None_more, One_more}
-use Rattle.uvl_parser.specs.Reading.{Read, Reader, ◌>>=◌, done, bind, one, accept, accepted, choose, repeat, many, closed}
+use Rattle.uvl_parser.specs.Reading.{Reader, ◌>>=◌, done, bind, one, accept, accepted, choose, repeat, many, closed}
 use Rattle.uvl_parser.proofs.Readers.{Good, Then, IsOne, IsAccepted, IsDone, Either, HasToken, AtSomeDepth, settle}
 
 -- a rest at which something stops
@@ -43,33 +43,37 @@ pub complete_bind : {A B : Type 0} (p : ℕ → Reader A) (f : ℕ → A → Rea
     → ((v : A) (ys : List Token) (w : B) (rest : List Token) → S v ys w → Ends rest → Stops (ys ++ rest))
     → Complete (λ m. bind (p m) (f m)) (Then R S) Ends d
 unfolding bind one accept choose done many closed
-complete_bind p f R S Stops Ends d c cs stops = record { reads = λ m le xs w rest t ends.
-  ap (λ z. bind (p m) (f m) (z ++ rest)) t.joins
-  ∙ ap (bind (p m) (f m)) (append_assoc t.front t.back rest)
-  ∙ ap (λ r. r >>= λ z. f m z.0 z.1) (c.reads m le t.front t.middle (t.back ++ rest) t.first (stops t.middle t.back w rest t.second ends))
-  ∙ (cs t.middle).reads m le t.back w rest t.second ends
+complete_bind p f R S Stops Ends d c cs stops = record {
+  reads = λ m le xs w rest t ends.
+      ap (λ z. bind (p m) (f m) (z ++ rest)) t.joins
+      ∙ ap (bind (p m) (f m)) (append_assoc t.front t.back rest)
+      ∙ ap (λ r. r >>= λ z. f m z.0 z.1) (c.reads m le t.front t.middle (t.back ++ rest) t.first (stops t.middle t.back w rest t.second ends))
+      ∙ (cs t.middle).reads m le t.back w rest t.second ends;
 }
 
 pub complete_one : (test : Test) (d : ℕ) → Complete (λ m. one test) (IsOne test) Anything d
 unfolding bind one accept choose done many closed
-complete_one test d = record { reads = λ m le xs place rest is any.
-  ap (λ z. one test (z ++ rest)) is.alone
-  ∙ ap (λ b. cond b (Ok (is.token.place, rest)) (Err (suc (length rest)))) is.passes
-  ∙ ap (λ z. Ok (z, rest)) (sym is.stands)
+complete_one test d = record {
+  reads = λ m le xs place rest is any.
+      ap (λ z. one test (z ++ rest)) is.alone
+      ∙ ap (λ b. cond b (Ok (is.token.place, rest)) (Err (suc (length rest)))) is.passes
+      ∙ ap (λ z. Ok (z, rest)) (sym is.stands);
 }
 
 pub complete_accept : {A : Type 0} (f : TokenKind → Option A) (d : ℕ) → Complete (λ m. accept f) (IsAccepted f) Anything d
 unfolding bind one accept choose done many closed
-complete_accept f d = record { reads = λ m le xs value rest is any.
-  ap (λ z. accept f (z ++ rest)) is.alone
-  ∙ ap (λ o. accepted o is.token rest) is.gives
-  ∙ ap (λ z. Ok ((value.0, z), rest)) (sym is.stands)
+complete_accept f d = record {
+  reads = λ m le xs value rest is any.
+      ap (λ z. accept f (z ++ rest)) is.alone
+      ∙ ap (λ o. accepted o is.token rest) is.gives
+      ∙ ap (λ z. Ok ((value.0, z), rest)) (sym is.stands);
 }
 
 pub complete_done : {A : Type 0} (a : A) (d : ℕ) → Complete (λ m. done a) (IsDone a) Anything d
 unfolding bind one accept choose done many closed
-complete_done a d = record { reads = λ m le xs value rest is any.
-  ap (λ z. done a (z ++ rest)) is.nothing ∙ ap (λ z. Ok (z, rest)) (sym is.gives)
+complete_done a d = record {
+  reads = λ m le xs value rest is any.
+      ap (λ z. done a (z ++ rest)) is.nothing ∙ ap (λ z. Ok (z, rest)) (sym is.gives);
 }
 
 module _ {A : Type 0} (test : Test) (p q : ℕ → Reader A) where
@@ -155,7 +159,7 @@ module _ {A : Type 0} (test : Test) (p : ℕ → Reader A) (R : Spelling A) (Sto
       absurd (omega (arith, begins_some test xs (begins xs a r), length-append xs ys, length-append (xs ++ ys) rest))
   turns m le (One_more {xs} {ys} {a} {items} r rs) (suc k) rest fits at_rest avoids =
       let shorter : length (ys ++ rest) ≤ k =
-        omega (arith, begins_some test xs (begins xs a r), length-append xs ys, length-append (xs ++ ys) rest, length-append ys rest) in
+      omega (arith, begins_some test xs (begins xs a r), length-append xs ys, length-append (xs ++ ys) rest, length-append ys rest) in
       turns_something m k ((xs ++ ys) ++ rest) (begins_on test (xs ++ ys) rest (begins_on test xs ys (begins xs a r)))
       ∙ ap (bind (p m) (λ a. bind (repeat k test (p m)) (λ items. done (a ∷ items)))) (append_assoc xs ys rest)
       ∙ ap (λ r. r >>= λ z. bind (repeat k test (p m)) (λ items. done (z.0 ∷ items)) z.1) (c.reads m le xs a (ys ++ rest) r (stops_there rs rest at_rest))
@@ -167,8 +171,9 @@ module _ {A : Type 0} (test : Test) (p : ℕ → Reader A) (R : Spelling A) (Sto
 
   pub complete_many : Complete (λ m. many test (p m)) (Repeated R) StopsMany d
   unfolding bind one accept choose done many closed
-  complete_many = record { reads = λ m le xs items rest r ends.
-    turns m le r (length (xs ++ rest)) rest (omega arith) ends.0 ends.1
+  complete_many = record {
+    reads = λ m le xs items rest r ends.
+        turns m le r (length (xs ++ rest)) rest (omega arith) ends.0 ends.1;
   }
 
 -- ---- however deep
@@ -177,9 +182,10 @@ module _ {A : Type 0} (p : ℕ → Reader A) (R : ℕ → Spelling A) (Stops : R
     (goods : (d : ℕ) → Good p (R d) d d) (c : (d : ℕ) → Complete p (R d) Stops d) where
   pub complete_closed : (d : ℕ) → Complete (λ m. closed p) (AtSomeDepth R) Stops d
   unfolding bind one accept choose done many closed
-  complete_closed d = record { reads = λ m le xs v rest r stops.
-    sym (settle p R goods (xs ++ rest) (suc (length (xs ++ rest))) (r.0 + suc (length (xs ++ rest))) (omega arith) (omega arith))
-    ∙ (c r.0).reads (r.0 + suc (length (xs ++ rest))) (omega arith) xs v rest r.1 stops
+  complete_closed d = record {
+    reads = λ m le xs v rest r stops.
+        sym (settle p R goods (xs ++ rest) (suc (length (xs ++ rest))) (r.0 + suc (length (xs ++ rest))) (omega arith) (omega arith))
+        ∙ (c r.0).reads (r.0 + suc (length (xs ++ rest))) (omega arith) xs v rest r.1 stops;
   }
 
 -- ---- the same, with what the arguments tell left out

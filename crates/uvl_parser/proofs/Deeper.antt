@@ -1,5 +1,5 @@
 -- Behind a part that has a token there are fewer tokens left, and so more depth than what stands there can need.
-use Rattle.std.specs.Prelude.{◌≡◌, ℕ, suc, ◌<◌, List, ◌++◌, length, Ok, Err}
+use Rattle.std.specs.Prelude.{ℕ, suc, ◌<◌, List, ◌++◌, length, Ok, Err}
 use Rattle.std.proofs.Common.{sym, ap, arith, append_assoc, length-append}
 use Rattle.uvl_lexer.specs.declared.token.Token.{Token}
 use Rattle.uvl_parser.specs.Shapes.{Spelling}

@@ -1,5 +1,5 @@
 -- In a file without named faults features nest at most 64 levels deep.
-use Rattle.std.specs.Prelude.{◌≡◌, ℕ, zero, suc, ◌+◌, ◌≤◌, ◌==◌, Bool, true, false, ◌&&◌, ◌||◌, List, [], ◌∷◌, ◌++◌, Some}
+use Rattle.std.specs.Prelude.{◌≡◌, ℕ, zero, suc, ◌+◌, ◌≤◌, Bool, true, ◌&&◌, ◌||◌, List, [], ◌∷◌, ◌++◌, Some}
 use Rattle.std.proofs.Common.{refl, sym, ap, subst, ◌∙◌, arith, eq-eqb}
 use Rattle.std.proofs.lemmas.Bool.{both_ways}
 use Rattle.uvl_lexer.specs.declared.token.Token.{Token}
@@ -8,20 +8,16 @@ use Rattle.uvl_lexer.specs.declared.token.TokenKind.TheVariants as token
 use Rattle.uvl_lexer.specs.declared.token.Word.TheVariants as word
 use Rattle.uvl_ast.specs.declared.names.Ref.{Ref}
 use Rattle.uvl_ast.specs.declared.feature.Feature.{Feature}
-use Rattle.uvl_ast.specs.declared.feature.Group.{Group}
 use Rattle.uvl_parser.specs.declared.named.section.Section.TheVariants.{Features}
-use Rattle.uvl_parser.specs.declared.named.section.SectionPart.TheVariants as part
 use Rattle.uvl_parser.specs.Tests.{is_word}
-use Rattle.uvl_parser.specs.Tokens.{name_of, IsNewline, IsIndent, IsDedent}
-use Rattle.uvl_parser.specs.Shapes.{Spelling, OneOrMore, Body, No_body, Indented}
+use Rattle.uvl_parser.specs.Tokens.{name_of}
+use Rattle.uvl_parser.specs.Shapes.{Spelling, Body, No_body, Indented}
 use Rattle.uvl_parser.specs.Refs.{SpellsRef, Reference}
-use Rattle.uvl_parser.specs.Braces.{SpellsBraces}
-use Rattle.uvl_parser.specs.Groups.{GroupFront, SpellsKind}
-use Rattle.uvl_parser.specs.Features.{SpellsBoolean, Not_said, Said, SpellsGroup, Members, SpellsFeature, Line, FeatureWithin}
+use Rattle.uvl_parser.specs.Features.{SpellsBoolean, Not_said, Said, SpellsGroup, Members, Line, FeatureWithin}
 use Rattle.uvl_parser.specs.Named.Lines.{is_line_mark, begins_line}
 use Rattle.uvl_parser.specs.Named.Sections.{part_of}
 use Rattle.uvl_parser.specs.Named.Met.{is_name, names_feature, is_at_depth_65, is_feature_too_deep}
-use Rattle.uvl_parser.proofs.Walking.{walk, walk_append, Clear, clear_front, clear_back, InLine, in_line_append, in_line_of_body, LineBegins, next_line, deeper_line, outer_line, Passes, one_or_more_passes}
+use Rattle.uvl_parser.proofs.Walking.{walk, walk_append, Clear, clear_front, clear_back, in_line_append, in_line_of_body, LineBegins, next_line, deeper_line, outer_line, Passes, one_or_more_passes}
 use Rattle.uvl_parser.proofs.Inline.{ref_inline, braces_inline, kind_inline, boolean_inline}
 
 -- a feature at depth 65 is named there
@@ -82,11 +78,10 @@ group_passes n M N step before zs group here clear (Members {xs} {ys} newline in
     let clear_all = clear_front deep before (xs ++ newline ∷ indent ∷ ys) (dedent ∷ []) clear in
     let clear_ys = (clear_back deep before xs (newline ∷ indent ∷ ys) clear_all).1.1 in
     let passed = one_or_more_passes deep (LineBegins Features (n + 2)) M N step (indent ∷ newline ∷ front) ys _ inner clear_ys members in
-    let after = outer_line Features (n + 2) (n + 1) (walk (indent ∷ newline ∷ front) ys) dedent (omega arith) (omega arith) passed.1.part closes in
-    (
+    let after = outer_line Features (n + 2) (n + 1) (walk (indent ∷ newline ∷ front) ys) dedent (omega arith) (omega arith) passed.1.part closes in (
       Members newline indent dedent kind ends opens passed.0 closes,
       subst (LineBegins Features (n + 1))
-      (sym (walk_append before (xs ++ newline ∷ indent ∷ ys) (dedent ∷ []) ∙ ap (λ b. walk b (dedent ∷ [])) (walk_append before xs (newline ∷ indent ∷ ys)))) after,
+          (sym (walk_append before (xs ++ newline ∷ indent ∷ ys) (dedent ∷ []) ∙ ap (λ b. walk b (dedent ∷ [])) (walk_append before xs (newline ∷ indent ∷ ys)))) after,
     )
 
 -- ---- features

@@ -1,14 +1,14 @@
 -- What a list begins with tells what it doesn't begin with.
-use Rattle.std.specs.Prelude.{◌≡◌, ℕ, Bool, true, false, not, List, [], ◌∷◌, ◌++◌, Option, Some, None}
-use Rattle.std.proofs.Common.{refl, sym, ap, ◌∙◌, subst}
+use Rattle.std.specs.Prelude.{◌≡◌, ℕ, Bool, true, false, not, List, [], ◌∷◌, ◌++◌, Some}
+use Rattle.std.proofs.Common.{refl, ap, ◌∙◌}
 use Rattle.uvl_lexer.specs.declared.token.Token.{Token}
 use Rattle.uvl_lexer.specs.declared.token.TokenKind.{TokenKind}
 use Rattle.uvl_lexer.specs.declared.token.TokenKind.TheVariants as token
 use Rattle.uvl_lexer.specs.declared.token.Word.{Word}
 use Rattle.uvl_lexer.specs.declared.token.Symbol.{Symbol}
 use Rattle.uvl_parser.specs.Tokens.{name_of}
-use Rattle.uvl_parser.specs.Tests.{Test, is_word, is_symbol, is_newline, is_indent, is_dedent, is_finish}
-use Rattle.uvl_parser.proofs.TokenKinds.{symbol_kind, word_kind, newline_kind, dedent_kind, indent_kind, finish_kind}
+use Rattle.uvl_parser.specs.Tests.{Test, is_word, is_symbol, is_newline, is_dedent, is_finish}
+use Rattle.uvl_parser.proofs.TokenKinds.{symbol_kind, word_kind, newline_kind, dedent_kind, finish_kind}
 use Rattle.uvl_parser.proofs.Completing.{Begins, Avoids}
 
 pub symbol_avoids : (s : Symbol) (test : Test) → test (token.Symbol s) ≡ false → (rest : List Token) → Begins (is_symbol s) rest → Avoids test rest

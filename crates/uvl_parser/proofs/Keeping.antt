@@ -1,6 +1,6 @@
 -- A loop that keeps the attributes and the rules of entries, turn by turn.
 use Rattle.std.specs.Prelude.{◌≡◌, ℕ, ◌+◌, ◌<◌, ◌≤◌, length, cond, true, false, List, [], ◌∷◌, ◌++◌, Ok, Err}
-use Rattle.std.proofs.Common.{refl, sym, ap, ◌∙◌, subst, append_assoc, append-nil}
+use Rattle.std.proofs.Common.{refl, sym, ap, ◌∙◌, append_assoc, append-nil}
 use Rattle.uvl_lexer.specs.declared.token.Token.{Token}
 use Rattle.uvl_lexer.specs.declared.token.Symbol.TheVariants as symbol
 use Rattle.uvl_ast.specs.declared.expression.Expr.{Expr}
@@ -57,9 +57,9 @@ module _ (before : List Attribute) (ruled : List Expr) (attributes : List Attrib
     entries = so_far.entries ++ e ∷ [];
     left = turn_taken (is_symbol symbol.Comma) (behind_comma entry) whole so_far.entries (so_far.entries ++ e ∷ []) end turn ts rest e so_far.left within begin reads refl;
     has = a ∙ ap (λ z. z ++ attributes_of (e ∷ [])) so_far.has ∙ append_assoc before (attributes_of so_far.entries) (attributes_of (e ∷ []))
-      ∙ ap (λ z. before ++ z) (sym (attributes_of-append so_far.entries (e ∷ [])));
+        ∙ ap (λ z. before ++ z) (sym (attributes_of-append so_far.entries (e ∷ [])));
     holds = r ∙ ap (λ z. z ++ rules_of (e ∷ [])) so_far.holds ∙ append_assoc ruled (rules_of so_far.entries) (rules_of (e ∷ []))
-      ∙ ap (λ z. ruled ++ z) (sym (rules_of-append so_far.entries (e ∷ [])));
+        ∙ ap (λ z. ruled ++ z) (sym (rules_of-append so_far.entries (e ∷ [])));
   }
 
   pub keeping_failed : (left : ℕ) → turn < end → begins (is_symbol symbol.Comma) ts ≡ true → behind_comma entry ts ≡ Err left

@@ -1,7 +1,7 @@
 -- The texts of the lines of `include`.
-use Rattle.std.specs.Prelude.{◌≡◌, ℕ, zero, suc, ◌+◌, ◌-◌, ◌<◌, ◌≤◌, Bool, true, false, List, [], ◌∷◌, ◌++◌, length, Result, Ok, Err, OnOk, is_ok, if◌then◌else◌, Option, Some, None, IsUtf8}
+use Rattle.std.specs.Prelude.{◌≡◌, ℕ, suc, ◌+◌, ◌-◌, ◌<◌, ◌≤◌, Bool, true, false, List, [], ◌∷◌, ◌++◌, length, Result, Ok, Err, OnOk, is_ok, if◌then◌else◌, Option, Some, None, IsUtf8}
 use Rattle.std.specs.Str.{chars}
-use Rattle.std.proofs.Common.{refl, sym, ap, subst, ◌∙◌, append_assoc, append-nil, arith}
+use Rattle.std.proofs.Common.{refl, sym, ap, ◌∙◌, append_assoc, append-nil, arith}
 use Rattle.std.proofs.lemmas.Str.{chars-append, chars-nil}
 use Rattle.uvl_base.specs.declared.place.Place.{Place}
 use Rattle.uvl_lexer.specs.declared.token.Token.{Token}
@@ -188,7 +188,7 @@ texts_begin text ts =
 
 line_as : (r : Read (List ℕ)) (more : List Token → Read (List (List ℕ))) (end : List Token → Read Place)
     → ((r >>= λ a. more a.1 >>= λ b. Ok (a.0 ∷ b.0, b.1)) >>= λ z. end z.1 >>= λ n. Ok (joined z.0, n.1))
-      ≡ ((text_onto [] r >>= λ a. texts_onto a.0 (more a.1)) >>= λ z. end z.1 >>= λ n. Ok (z.0, n.1))
+    ≡ ((text_onto [] r >>= λ a. texts_onto a.0 (more a.1)) >>= λ z. end z.1 >>= λ n. Ok (z.0, n.1))
 line_as (Ok a) more end = behind (more a.1)
   where
     behind : (r : Read (List (List ℕ))) → ((r >>= λ b. Ok (a.0 ∷ b.0, b.1)) >>= λ z. end z.1 >>= λ n. Ok (joined z.0, n.1))

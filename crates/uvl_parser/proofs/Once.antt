@@ -1,5 +1,5 @@
 -- A list of tokens is parsed as one file, or refused at one place for one kind of fault, and never both.
-use Rattle.std.specs.Prelude.{◌≡◌, ◌⊎◌, ℕ, zero, suc, ◌+◌, ◌-◌, ◌≤◌, ◌<◌, ◌==◌, cond, List, [], ◌∷◌, length, take, slice_get, get_or, Ok, Err, Option, Some, None}
+use Rattle.std.specs.Prelude.{◌≡◌, ◌⊎◌, ℕ, zero, suc, ◌+◌, ◌-◌, ◌≤◌, ◌<◌, ◌==◌, cond, List, length, take, slice_get, get_or, Ok, Err, Option, Some, None}
 use Rattle.std.specs.Option.{unwrap_or}
 use Rattle.std.proofs.Common.{refl, sym, ap, subst, ◌∙◌, inl, inr, arith, below_more}
 use Rattle.std.proofs.lemmas.Bool.{cases_order}
@@ -14,9 +14,9 @@ use Rattle.uvl_ast.specs.declared.file.File.{File}
 use Rattle.uvl_parser.specs.declared.named.candidate.Candidate.{Candidate}
 use Rattle.uvl_parser.specs.declared.named.scan.Met.{Met}
 use Rattle.uvl_parser.specs.File.{Spells}
-use Rattle.uvl_parser.specs.Named.{IsMet, Typed, Cardinal, Averaged, Unsupported, Nested, IsMetAlive, Large, Deep, in_front, Named, By_tokens, Where_alive, NoneNamed, LowestNamed, IsFirstNamed}
+use Rattle.uvl_parser.specs.Named.{Typed, Cardinal, Averaged, Unsupported, Nested, Large, Deep, in_front, Named, By_tokens, Where_alive, NoneNamed, LowestNamed, IsFirstNamed}
 use Rattle.uvl_parser.specs.Named.Scan.{met_of}
-use Rattle.uvl_parser.specs.Parsing.{IsParsedAs, IsSyntax, IsFaultAt, IsRefusedAt, HasFile, HasRefusal, IsParsedOnce}
+use Rattle.uvl_parser.specs.Parsing.{IsParsedAs, IsSyntax, IsFaultAt, IsRefusedAt, IsParsedOnce}
 use Rattle.uvl_parser.specs.Reading.{Read}
 use Rattle.uvl_parser.specs.Readers.File.{file}
 use Rattle.uvl_parser.proofs.Naming.{none_named, named_first, named_within}
@@ -57,34 +57,34 @@ module _ (tokens : List Token) where
   none_earlier : (k j : ℕ) (a b : FaultKind) → IsFaultAt tokens k a → IsFaultAt tokens j b → k < j → ⊥
   none_earlier k j a b first second before = by_cause first.cause
     where
-    by_cause : LowestNamed tokens k a ⊎ IsSyntax tokens k a → ⊥
-    by_cause (inl named) = second.unnamed_before k before a named.named
-    by_cause (inr syntax) = second.alive_before k before syntax.dead
+      by_cause : LowestNamed tokens k a ⊎ IsSyntax tokens k a → ⊥
+      by_cause (inl named) = second.unnamed_before k before a named.named
+      by_cause (inr syntax) = second.alive_before k before syntax.dead
 
   same_token : (k j : ℕ) (a b : FaultKind) → IsFaultAt tokens k a → IsFaultAt tokens j b → j ≡ k
   same_token k j a b first second = by_order (cases_order k j)
     where
-    by_order : (k ≡ j) ⊎ ((k < j) ⊎ (j < k)) → j ≡ k
-    by_order (inl same) = sym same
-    by_order (inr (inl before)) = absurd (none_earlier k j a b first second before)
-    by_order (inr (inr behind)) = absurd (none_earlier j k b a second first behind)
+      by_order : (k ≡ j) ⊎ ((k < j) ⊎ (j < k)) → j ≡ k
+      by_order (inl same) = sym same
+      by_order (inr (inl before)) = absurd (none_earlier k j a b first second before)
+      by_order (inr (inr behind)) = absurd (none_earlier j k b a second first behind)
 
   same_kind : (k : ℕ) (a b : FaultKind) → IsFaultAt tokens k a → IsFaultAt tokens k b → b ≡ a
   same_kind k a b first second = by_causes first.cause second.cause
     where
-    by_causes : LowestNamed tokens k a ⊎ IsSyntax tokens k a → LowestNamed tokens k b ⊎ IsSyntax tokens k b → b ≡ a
-    by_causes (inl l) (inl m) = same_lowest tokens k a b l m
-    by_causes (inl l) (inr s) = absurd (s.unnamed a l.named)
-    by_causes (inr s) (inl m) = absurd (s.unnamed b m.named)
-    by_causes (inr s) (inr r) = r.syntax ∙ sym s.syntax
+      by_causes : LowestNamed tokens k a ⊎ IsSyntax tokens k a → LowestNamed tokens k b ⊎ IsSyntax tokens k b → b ≡ a
+      by_causes (inl l) (inl m) = same_lowest tokens k a b l m
+      by_causes (inl l) (inr s) = absurd (s.unnamed a l.named)
+      by_causes (inr s) (inl m) = absurd (s.unnamed b m.named)
+      by_causes (inr s) (inr r) = r.syntax ∙ sym s.syntax
 
   -- a list that is parsed as a file is refused nowhere
   pub never_both : (f : File) → IsParsedAs tokens f → (place : Place) (kind : FaultKind) → IsRefusedAt tokens place kind → ⊥
   never_both f parsed place kind refused = by_cause refused.fault.cause
     where
-    by_cause : LowestNamed tokens refused.k kind ⊎ IsSyntax tokens refused.k kind → ⊥
-    by_cause (inl named) = parsed.unnamed refused.k kind named.named
-    by_cause (inr syntax) = spelled_alive tokens f refused.k parsed.spelled syntax.dead
+      by_cause : LowestNamed tokens refused.k kind ⊎ IsSyntax tokens refused.k kind → ⊥
+      by_cause (inl named) = parsed.unnamed refused.k kind named.named
+      by_cause (inr syntax) = spelled_alive tokens f refused.k parsed.spelled syntax.dead
 
   pub one_file : (f other : File) → Spells tokens f → Spells tokens other → other ≡ f
   one_file f other spelled also =
@@ -119,10 +119,10 @@ module _ (tokens : List Token) where
   has_refusal : (k : ℕ) (kind : FaultKind) → IsFaultAt tokens k kind → IsParsedOnce tokens
   has_refusal k kind fault = with_token (slice_get_cases tokens k).1
     where
-    with_token : ((x : Token) × (k < length tokens) × (slice_get tokens k ≡ Some x) × (get_or tokens k x ≡ x)) ⊎ ((length tokens ≤ k) × (slice_get tokens k ≡ None))
-        → IsParsedOnce tokens
-    with_token (inl found) = refused_once k kind found.0 found.2 fault
-    with_token (inr past) = absurd (omega (arith, past.0, fault.within))
+      with_token : ((x : Token) × (k < length tokens) × (slice_get tokens k ≡ Some x) × (get_or tokens k x ≡ x)) ⊎ ((length tokens ≤ k) × (slice_get tokens k ≡ None))
+          → IsParsedOnce tokens
+      with_token (inl found) = refused_once k kind found.0 found.2 fault
+      with_token (inr past) = absurd (omega (arith, past.0, fault.within))
 
   -- ---- the first named fault, or none
 
@@ -140,10 +140,10 @@ module _ (tokens : List Token) where
   one_more n within (inr found) = inr found
   one_more n within (inl none) = with_token (slice_get_cases tokens n).1
     where
-    with_token : ((x : Token) × (n < length tokens) × (slice_get tokens n ≡ Some x) × (get_or tokens n x ≡ x)) ⊎ ((length tokens ≤ n) × (slice_get tokens n ≡ None))
-        → Searched (n + 1)
-    with_token (inl found) = at_one n found.0 within found.2 none (met_of (in_front n tokens) found.0) refl
-    with_token (inr past) = absurd (omega (arith, past.0))
+      with_token : ((x : Token) × (n < length tokens) × (slice_get tokens n ≡ Some x) × (get_or tokens n x ≡ x)) ⊎ ((length tokens ≤ n) × (slice_get tokens n ≡ None))
+          → Searched (n + 1)
+      with_token (inl found) = at_one n found.0 within found.2 none (met_of (in_front n tokens) found.0) refl
+      with_token (inr past) = absurd (omega (arith, past.0))
 
   searched : (n : ℕ) → n ≤ length tokens → Searched n
   unfolding Searched

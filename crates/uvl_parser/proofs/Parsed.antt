@@ -1,10 +1,9 @@
 -- What reading a list of tokens tells of it: the file that it spells, or its first dead token.
-use Rattle.std.specs.Prelude.{◌≡◌, ◌⊎◌, ℕ, zero, suc, ◌+◌, ◌-◌, ◌≤◌, ◌<◌, List, [], ◌∷◌, ◌++◌, length, take, drop, slice_get, Ok, Err, Option, Some, None, MatchOption}
+use Rattle.std.specs.Prelude.{◌≡◌, ℕ, suc, ◌+◌, ◌-◌, ◌≤◌, ◌<◌, List, [], ◌∷◌, ◌++◌, length, take, drop, slice_get, Ok, Err, Option, Some, None, MatchOption}
 use Rattle.std.specs.Option.{unwrap_or}
 use Rattle.std.proofs.Common.{refl, sym, ap, subst, ◌∙◌, inl, inr, arith, append_assoc, append-nil, length-append}
 use Rattle.std.proofs.lemmas.List.{take-append-drop, take-append-le, length-take}
-use Rattle.std.proofs.Math.Seq.{take-append_seam, take-append-add}
-use Rattle.uvl_base.specs.declared.place.Place.{Place}
+use Rattle.std.proofs.Math.Seq.{take-append-add}
 use Rattle.uvl_base.specs.declared.fault.FaultKind.{FaultKind}
 use Rattle.uvl_base.specs.declared.fault.FaultKind.TheVariants.{Syntax}
 use Rattle.uvl_lexer.specs.declared.token.Token.{Token}
@@ -15,7 +14,7 @@ use Rattle.uvl_parser.specs.declared.named.candidate.Candidate.{Candidate}
 use Rattle.uvl_parser.specs.File.{Spells, A_file}
 use Rattle.uvl_parser.specs.Dead.{Dead}
 use Rattle.uvl_parser.specs.Named.{NoneNamed, LowestNamed, IsFirstNamed}
-use Rattle.uvl_parser.specs.Parsing.{IsParsedAs, IsSyntax, IsFaultAt, IsRefusedAt}
+use Rattle.uvl_parser.specs.Parsing.{IsParsedAs, IsFaultAt, IsRefusedAt}
 use Rattle.uvl_parser.specs.Reading.{Read}
 use Rattle.uvl_parser.specs.Readers.File.{file}
 use Rattle.uvl_parser.proofs.Readers.{Good, Outcome, ReadsOn, StopsAt, SameHead}
@@ -228,8 +227,7 @@ module _ (ts : List Token) (list : IsTokenList ts) (c : Candidate) (first : IsFi
       sym upto_length ∙ ap length o.splits ∙ length-append o.front o.rest ∙ ap (λ n. length o.front + n) (sym o.count) in
       let k : length o.front ≡ c.index + 1 - left = omega arith in
       let within : c.index + 1 ≤ length ts = omega (arith, first.within) in
-      let dead = dead_same ts (c.index + 1) (length o.front) (omega arith) within (stopped_dead upto left o t behind is) in
-      (
+      let dead = dead_same ts (c.index + 1) (length o.front) (omega arith) within (stopped_dead upto left o t behind is) in (
         omega arith,
         omega arith,
         λ j before there. stopped_alive upto left o j (omega arith) (same_dead ts (c.index + 1) j (omega arith) within there),
@@ -239,16 +237,16 @@ module _ (ts : List Token) (list : IsTokenList ts) (c : Candidate) (first : IsFi
   pub all_taken : file upto ≡ Err 0 → IsFaultAt ts c.index c.alive
   all_taken stuck = let o : Stops upto 0 = outcome upto (Err 0) stuck in at o o.rest refl
     where
-    at : (o : Stops upto 0) (rest : List Token) → o.rest ≡ rest → IsFaultAt ts c.index c.alive
-    at o [] is = out_of_tokens 0 o is
-    at o (t ∷ behind) is = let none : 0 ≡ suc (length behind) = o.count ∙ ap length is in absurd (omega arith)
+      at : (o : Stops upto 0) (rest : List Token) → o.rest ≡ rest → IsFaultAt ts c.index c.alive
+      at o [] is = out_of_tokens 0 o is
+      at o (t ∷ behind) is = let none : 0 ≡ suc (length behind) = o.count ∙ ap length is in absurd (omega arith)
 
   stuck_at : (left : ℕ) → 1 ≤ left → file upto ≡ Err left → Stuck_there left
   stuck_at left some stuck = let o : Stops upto left = outcome upto (Err left) stuck in at o o.rest refl
     where
-    at : (o : Stops upto left) (rest : List Token) → o.rest ≡ rest → Stuck_there left
-    at o [] is = let none : left ≡ 0 = o.count ∙ ap length is in absurd (omega arith)
-    at o (t ∷ behind) is = stuck_there left o t behind is
+      at : (o : Stops upto left) (rest : List Token) → o.rest ≡ rest → Stuck_there left
+      at o [] is = let none : left ≡ 0 = o.count ∙ ap length is in absurd (omega arith)
+      at o (t ∷ behind) is = stuck_there left o t behind is
 
   pub last_stuck : file upto ≡ Err 1 → IsFaultAt ts c.index (unwrap_or c.dead Syntax)
   last_stuck stuck =
@@ -259,10 +257,12 @@ module _ (ts : List Token) (list : IsTokenList ts) (c : Candidate) (first : IsFi
 
   pub front_stuck : (left : ℕ) → 2 ≤ left → file upto ≡ Err left → (left ≤ c.index + 1) × IsFaultAt ts (c.index + 1 - left) Syntax
   front_stuck left some stuck =
-      let there = stuck_at left (omega arith) stuck in
-      (there.1, record {
-        within = omega (arith, first.within, there.1);
-        unnamed_before = λ j before. first.none_before j (omega arith);
-        alive_before = there.2;
-        cause = inr (record { dead = there.3; unnamed = first.none_before (c.index + 1 - left) (omega (arith, there.1)); syntax = refl });
-      })
+      let there = stuck_at left (omega arith) stuck in (
+        there.1,
+        record {
+          within = omega (arith, first.within, there.1);
+          unnamed_before = λ j before. first.none_before j (omega arith);
+          alive_before = there.2;
+          cause = inr (record { dead = there.3; unnamed = first.none_before (c.index + 1 - left) (omega (arith, there.1)); syntax = refl });
+        },
+      )

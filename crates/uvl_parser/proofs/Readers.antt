@@ -316,12 +316,14 @@ pub record IsDone {A : Type 0} (a : A) (ts : List Token) (value : A) : Type 0 wh
 
 pub good_done : {A : Type 0} (a : A) (d n : ℕ) → Good (λ m. done a) (IsDone a) d n
 unfolding bind one accept choose done many closed
-good_done a d n = record { at = λ ts h. record {
-  front = [];
-  splits = refl;
-  spelled = record { nothing = refl; gives = refl };
-  again = λ m le later same. refl;
-} }
+good_done a d n = record {
+  at = λ ts h. record {
+    front = [];
+    splits = refl;
+    spelled = record { nothing = refl; gives = refl };
+    again = λ m le later same. refl;
+  };
+}
 
 -- ---- one of two
 
@@ -390,11 +392,11 @@ module _ {A : Type 0} (test : Test) (p q : ℕ → Reader A) (R S : Spelling A) 
   choose_token t ts h true e =
       weaken_outcome (λ m. choose test (p m) (q m)) R (Either R S) d (t ∷ ts) (λ xs v spelled. inl spelled) (p d (t ∷ ts))
       (follow_outcome p (λ m. choose test (p m) (q m)) R d (t ∷ ts) (λ m us same. first_along test p q t ts us m e same)
-        (p d (t ∷ ts)) (good.at (t ∷ ts) h))
+      (p d (t ∷ ts)) (good.at (t ∷ ts) h))
   choose_token t ts h false e =
       weaken_outcome (λ m. choose test (p m) (q m)) S (Either R S) d (t ∷ ts) (λ xs v spelled. inr spelled) (q d (t ∷ ts))
       (follow_outcome q (λ m. choose test (p m) (q m)) S d (t ∷ ts) (λ m us same. second_along test p q t ts us m e same)
-        (q d (t ∷ ts)) (other.at (t ∷ ts) h))
+      (q d (t ∷ ts)) (other.at (t ∷ ts) h))
 
   choose_list : (ts : List Token) → length ts < n
       → Outcome (λ m. choose test (p m) (q m)) (Either R S) d ts (choose test (p d) (q d) ts)
@@ -402,7 +404,7 @@ module _ {A : Type 0} (test : Test) (p q : ℕ → Reader A) (R S : Spelling A) 
   choose_list [] h =
       weaken_outcome (λ m. choose test (p m) (q m)) S (Either R S) d [] (λ xs v spelled. inr spelled) (q d [])
       (follow_outcome q (λ m. choose test (p m) (q m)) S d [] (λ m us same. nothing_along test p q us m same)
-        (q d []) (other.at [] h))
+      (q d []) (other.at [] h))
   choose_list (t ∷ ts) h = choose_token t ts h (test t.kind) refl
 
   pub good_choose : Good (λ m. choose test (p m) (q m)) (Either R S) d n
@@ -486,14 +488,14 @@ module _ {A : Type 0} (test : Test) (p : ℕ → Reader A) (R : Spelling A) (d n
     splits = o.splits ∙ ap (λ z. o.front ++ z) o2.splits ∙ sym (append_assoc o.front o2.front x.1);
     spelled = One_more o.spelled o2.spelled;
     again = λ m k le later same fits.
-      let regrouped = append_assoc o.front o2.front later in
-      let begins = subst (λ (z : List Token). SameHead (t ∷ ts) z) regrouped (along (t ∷ ts) (o.front ++ o2.front) x.1 later (o.splits ∙ ap (λ z. o.front ++ z) o2.splits ∙ sym (append_assoc o.front o2.front x.1)) same) in
-      let within : length (o.front ++ (o2.front ++ later)) ≤ k = subst (λ (z : List Token). length z ≤ k) regrouped fits in
-      let first = turns_from test (p m) t ts k (o.front ++ (o2.front ++ later)) e begins within in
-      let shorter : length (o2.front ++ later) ≤ first.0 = omega (arith, has o.front a o.spelled, length-append o.front (o2.front ++ later), first.1) in
-      ap (repeat k test (p m)) regrouped ∙ first.2
-      ∙ ap (λ r. r >>= λ z. put_front z.0 (repeat first.0 test (p m) z.1)) (o.again m le (o2.front ++ later) (subst (λ z. SameHead z (o2.front ++ later)) (sym o2.splits) (same_behind o2.front x.1 later same)))
-      ∙ ap (put_front a) (o2.again m first.0 le later same shorter);
+        let regrouped = append_assoc o.front o2.front later in
+        let begins = subst (λ (z : List Token). SameHead (t ∷ ts) z) regrouped (along (t ∷ ts) (o.front ++ o2.front) x.1 later (o.splits ∙ ap (λ z. o.front ++ z) o2.splits ∙ sym (append_assoc o.front o2.front x.1)) same) in
+        let within : length (o.front ++ (o2.front ++ later)) ≤ k = subst (λ (z : List Token). length z ≤ k) regrouped fits in
+        let first = turns_from test (p m) t ts k (o.front ++ (o2.front ++ later)) e begins within in
+        let shorter : length (o2.front ++ later) ≤ first.0 = omega (arith, has o.front a o.spelled, length-append o.front (o2.front ++ later), first.1) in
+        ap (repeat k test (p m)) regrouped ∙ first.2
+        ∙ ap (λ r. r >>= λ z. put_front z.0 (repeat first.0 test (p m) z.1)) (o.again m le (o2.front ++ later) (subst (λ z. SameHead z (o2.front ++ later)) (sym o2.splits) (same_behind o2.front x.1 later same)))
+        ∙ ap (put_front a) (o2.again m first.0 le later same shorter);
   }
   turn_behind t ts e a rest o (Err left) o2 = record {
     front = o.front ++ o2.front;
@@ -504,14 +506,14 @@ module _ {A : Type 0} (test : Test) (p : ℕ → Reader A) (R : Spelling A) (d n
     value = a ∷ o2.value;
     completed = subst (λ (z : List Token). Repeated R z (a ∷ o2.value)) (sym (append_assoc o.front o2.front o2.more)) (One_more o.spelled o2.completed);
     again = λ m k le later same fits.
-      let regrouped = append_assoc o.front o2.front later in
-      let begins = subst (λ (z : List Token). SameHead (t ∷ ts) z) regrouped (along (t ∷ ts) (o.front ++ o2.front) o2.rest later (o.splits ∙ ap (λ z. o.front ++ z) o2.splits ∙ sym (append_assoc o.front o2.front o2.rest)) same) in
-      let within : length (o.front ++ (o2.front ++ later)) ≤ k = subst (λ (z : List Token). length z ≤ k) regrouped fits in
-      let first = turns_from test (p m) t ts k (o.front ++ (o2.front ++ later)) e begins within in
-      let shorter : length (o2.front ++ later) ≤ first.0 = omega (arith, has o.front a o.spelled, length-append o.front (o2.front ++ later), first.1) in
-      ap (repeat k test (p m)) regrouped ∙ first.2
-      ∙ ap (λ r. r >>= λ z. put_front z.0 (repeat first.0 test (p m) z.1)) (o.again m le (o2.front ++ later) (subst (λ z. SameHead z (o2.front ++ later)) (sym o2.splits) (same_behind o2.front o2.rest later same)))
-      ∙ ap (put_front a) (o2.again m first.0 le later same shorter);
+        let regrouped = append_assoc o.front o2.front later in
+        let begins = subst (λ (z : List Token). SameHead (t ∷ ts) z) regrouped (along (t ∷ ts) (o.front ++ o2.front) o2.rest later (o.splits ∙ ap (λ z. o.front ++ z) o2.splits ∙ sym (append_assoc o.front o2.front o2.rest)) same) in
+        let within : length (o.front ++ (o2.front ++ later)) ≤ k = subst (λ (z : List Token). length z ≤ k) regrouped fits in
+        let first = turns_from test (p m) t ts k (o.front ++ (o2.front ++ later)) e begins within in
+        let shorter : length (o2.front ++ later) ≤ first.0 = omega (arith, has o.front a o.spelled, length-append o.front (o2.front ++ later), first.1) in
+        ap (repeat k test (p m)) regrouped ∙ first.2
+        ∙ ap (λ r. r >>= λ z. put_front z.0 (repeat first.0 test (p m) z.1)) (o.again m le (o2.front ++ later) (subst (λ z. SameHead z (o2.front ++ later)) (sym o2.splits) (same_behind o2.front o2.rest later same)))
+        ∙ ap (put_front a) (o2.again m first.0 le later same shorter);
   }
 
   -- a turn, where the turns behind it keep to it
@@ -533,8 +535,8 @@ module _ {A : Type 0} (test : Test) (p : ℕ → Reader A) (R : Spelling A) (d n
     value = o.value ∷ [];
     completed = subst (λ (z : List Token). Repeated R z (o.value ∷ [])) (append_assoc o.front o.more []) (One_more o.completed None_more);
     again = λ m j le later same within.
-      let first = turns_from test (p m) t ts j (o.front ++ later) e (along (t ∷ ts) o.front o.rest later o.splits same) within in
-      first.2 ∙ ap (λ r. r >>= λ z. put_front z.0 (repeat first.0 test (p m) z.1)) (o.again m le later same);
+        let first = turns_from test (p m) t ts j (o.front ++ later) e (along (t ∷ ts) o.front o.rest later o.splits same) within in
+        first.2 ∙ ap (λ r. r >>= λ z. put_front z.0 (repeat first.0 test (p m) z.1)) (o.again m le later same);
   }
 
   nothing_repeated : (ts : List Token) → ((m k : ℕ) (later : List Token) → SameHead ts later → repeat k test (p m) later ≡ Ok ([], later))

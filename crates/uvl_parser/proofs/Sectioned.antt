@@ -1,16 +1,12 @@
 -- The sections that tokens tell are those that a file is spelled by: the tree of features stands in the
 -- body of the features section.
-use Rattle.std.specs.Prelude.{◌≡◌, ℕ, ◌+◌, ◌⊎◌, Bool, true, false, cond, List, [], ◌∷◌, ◌++◌, Option, Some, None}
+use Rattle.std.specs.Prelude.{◌≡◌, ◌⊎◌, Bool, true, false, cond, List, [], ◌∷◌, ◌++◌, Option, Some}
 use Rattle.std.proofs.Common.{refl, sym, ap, subst, ◌∙◌, inl, inr}
 use Rattle.uvl_lexer.specs.declared.token.Token.{Token}
-use Rattle.uvl_lexer.specs.declared.token.TokenKind.{TokenKind}
 use Rattle.uvl_lexer.specs.declared.token.TokenKind.TheVariants as token
 use Rattle.uvl_lexer.specs.declared.token.Word.{Word}
-use Rattle.uvl_lexer.specs.declared.token.Word.TheVariants as word
 use Rattle.uvl_ast.specs.declared.names.Ref.{Ref}
-use Rattle.uvl_ast.specs.declared.file.Import.{Import}
 use Rattle.uvl_parser.specs.declared.named.section.Section.{Section}
-use Rattle.uvl_parser.specs.declared.named.section.Section.TheVariants.{Include, Imports, Features, Constraints}
 use Rattle.uvl_parser.specs.declared.named.section.SectionPart.TheVariants.{Outside, Heading, Headed, Body}
 use Rattle.uvl_parser.specs.Tests.{is_newline, is_indent}
 use Rattle.uvl_parser.specs.Tokens.{IsWord, IsNewline, IsIndent, IsDedent}
@@ -18,7 +14,7 @@ use Rattle.uvl_parser.specs.Shapes.{Spelling, No_body, Indented}
 use Rattle.uvl_parser.specs.Sections.{SpellsSection, No_section, Lines, SpellsNamespace, No_namespace, Namespace, SpellsLevel, Level, SpellsImport, Import_line, SpellsRule, Rule}
 use Rattle.uvl_parser.specs.Named.Lines.{is_line_mark, begins_line}
 use Rattle.uvl_parser.specs.Named.Sections.{section_named, in_heading, behind_outside, part_behind, part_of}
-use Rattle.uvl_parser.proofs.Walking.{walk, walk_append, InLine, in_line_append, in_line_of_body, LineBegins, next_line, deeper_line, Clear, Passes, one_or_more_passes}
+use Rattle.uvl_parser.proofs.Walking.{walk, walk_append, InLine, in_line_append, in_line_of_body, LineBegins, next_line, Clear, Passes, one_or_more_passes}
 use Rattle.uvl_parser.proofs.Inline.{ref_inline, level_inline, alias_inline, expr_inline}
 
 -- Between sections a line begins: outside of them, or behind the line of a section's word.
@@ -38,12 +34,12 @@ module _ (before : List Token) (t : Token) (w : Word) (s : Section) (is : IsWord
   heading : Between before → part_of (t ∷ before) ≡ Heading s
   heading between = from between.part
     where
-    from : (part_of before ≡ Outside) ⊎ ((s : Section) × (part_of before ≡ Headed s)) → part_of (t ∷ before) ≡ Heading s
-    from (inl outside) = ap (λ p. part_behind p (begins_line before) t.kind) outside ∙ begun (begins_line before) between.begins
-    from (inr headed) =
-        ap (λ p. part_behind p (begins_line before) t.kind) headed.1
-        ∙ ap (λ b. cond b (Body headed.0 1) (behind_outside (begins_line before) t.kind)) (ap is_indent is)
-        ∙ begun (begins_line before) between.begins
+      from : (part_of before ≡ Outside) ⊎ ((s : Section) × (part_of before ≡ Headed s)) → part_of (t ∷ before) ≡ Heading s
+      from (inl outside) = ap (λ p. part_behind p (begins_line before) t.kind) outside ∙ begun (begins_line before) between.begins
+      from (inr headed) =
+          ap (λ p. part_behind p (begins_line before) t.kind) headed.1
+          ∙ ap (λ b. cond b (Body headed.0 1) (behind_outside (begins_line before) t.kind)) (ap is_indent is)
+          ∙ begun (begins_line before) between.begins
 
   pub headed : Between before → (newline : Token) → IsNewline newline → part_of (newline ∷ t ∷ before) ≡ Headed s
   headed between newline ends =

@@ -1,8 +1,8 @@
 -- Features of a file without named faults nest at most 64 levels deep.
-use Rattle.std.specs.Prelude.{◌≡◌, ℕ, zero, suc, ◌+◌, ◌≤◌, ◌<◌, Bool, true, false, List, [], ◌∷◌, ◌++◌, length, reverse, take, drop, slice_get, Option, Some, None, MatchOption}
-use Rattle.std.proofs.Common.{refl, sym, ap, subst, ◌∙◌, arith, append_assoc, get_or}
+use Rattle.std.specs.Prelude.{◌≡◌, ℕ, ◌+◌, Bool, true, false, List, [], ◌∷◌, ◌++◌, length, reverse, take, drop, slice_get, Option, Some, None}
+use Rattle.std.proofs.Common.{refl, sym, ap, subst, ◌∙◌, append_assoc}
 use Rattle.std.proofs.lemmas.List.{reverse-append, take-append-drop}
-use Rattle.std.proofs.Math.Seq.{take-append_seam, drop-append_seam}
+use Rattle.std.proofs.Math.Seq.{take-append_seam}
 use Rattle.uvl_base.specs.declared.fault.FaultKind.TheVariants.{TooDeep}
 use Rattle.uvl_lexer.specs.declared.token.Token.{Token}
 use Rattle.uvl_lexer.specs.declared.token.Word.TheVariants as word
@@ -13,7 +13,7 @@ use Rattle.uvl_parser.specs.Features.{FeatureWithin}
 use Rattle.uvl_parser.specs.Sections.{SpellsLevel, SpellsImport, SpellsFeatures, No_features, Root}
 use Rattle.uvl_parser.specs.File.{Spells, A_file}
 use Rattle.uvl_parser.specs.Dead.{Dead}
-use Rattle.uvl_parser.specs.Named.{in_front, Named, Where_alive, Deep, NoneNamed}
+use Rattle.uvl_parser.specs.Named.{in_front, Where_alive, Deep, NoneNamed}
 use Rattle.uvl_parser.proofs.Walking.{walk, walk_append, Clear, clear_front, clear_back}
 use Rattle.uvl_parser.proofs.Depths.{deep, feature_passes}
 use Rattle.uvl_parser.proofs.Sectioned.{Between, body_begins, level_kept, import_kept, section_passed, namespace_passed}

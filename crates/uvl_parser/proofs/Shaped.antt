@@ -1,17 +1,14 @@
 -- The shapes of productions are read exactly, where their parts are.
-use Rattle.std.specs.Prelude.{◌≡◌, ℕ, zero, suc, ◌<◌, ◌≤◌, ◌+◌, ◌⊎◌, Bool, true, false, not, List, [], ◌∷◌, ◌++◌, length, Some, None}
-use Rattle.std.proofs.Common.{refl, sym, ap, subst, ◌∙◌, inl, inr, append_assoc, append-nil, arith, length-append}
-use Rattle.uvl_base.specs.declared.place.Place.{Place}
+use Rattle.std.specs.Prelude.{◌≡◌, ℕ, Bool, true, false, not, List, [], ◌∷◌, ◌++◌}
+use Rattle.std.proofs.Common.{refl, sym, ap, subst, ◌∙◌, inl, inr, append_assoc, append-nil, arith}
 use Rattle.uvl_lexer.specs.declared.token.Token.{Token}
-use Rattle.uvl_lexer.specs.declared.token.TokenKind.{TokenKind}
-use Rattle.uvl_lexer.specs.declared.token.TokenKind.TheVariants as token
 use Rattle.uvl_lexer.specs.declared.token.Symbol.TheVariants as symbol
 use Rattle.uvl_parser.specs.Tests.{Test, is_symbol, is_indent, is_dedent, stays}
 use Rattle.uvl_parser.specs.Shapes.{Spelling, Repeated, None_more, One_more, OneOrMore, First, BehindComma, Comma, Separated, Nothing, Parts, Body, No_body, Indented}
-use Rattle.uvl_parser.specs.Reading.{Reader, done, bind, one, accept, choose, many, one_or_more, behind_comma, separated, body}
+use Rattle.uvl_parser.specs.Reading.{Reader, one_or_more, behind_comma, separated, body}
 use Rattle.uvl_parser.proofs.TokenKinds.{symbol_kind, kind_symbol, indent_kind, dedent_kind}
-use Rattle.uvl_parser.proofs.Readers.{Good, Then, IsOne, IsAccepted, IsDone, Either, HasToken, then_good, spelled_so, done_good, many_good, choose_good, opened, taken, respell}
-use Rattle.uvl_parser.proofs.Completing.{Rest, Complete, Anything, Begins, Avoids, PartsBegin, one_complete, accept_complete, next_complete, then_complete, last_complete, done_complete, spelled_complete, stops_complete, many_complete, parts_complete, choose_complete, one_then, accept_then, part_then, part_last, done_now}
+use Rattle.uvl_parser.proofs.Readers.{Good, Then, IsOne, IsDone, Either, HasToken, then_good, spelled_so, done_good, many_good, choose_good, opened, respell}
+use Rattle.uvl_parser.proofs.Completing.{Rest, Complete, Anything, Begins, Avoids, PartsBegin, one_complete, next_complete, then_complete, last_complete, done_complete, spelled_complete, stops_complete, many_complete, parts_complete, choose_complete, one_then, part_then, part_last, done_now}
 use Rattle.uvl_parser.proofs.Parts.Samples.{symbol_good, indent_good, dedent_good}
 
 -- what stands in front of nothing
@@ -92,7 +89,7 @@ body_of R xs v (inl t) =
     let indent = opened t in
     let dedent = opened indent.second.second in
     respell (Body R) (Indented indent.token dedent.token (indent_kind indent.token.kind indent.passes) indent.second.first
-      (dedent_kind dedent.token.kind dedent.passes))
+    (dedent_kind dedent.token.kind dedent.passes))
     (indent.joins ∙ ap (λ z. indent.token ∷ z) (indent.second.joins ∙ ap (λ z. indent.second.front ++ z) (dedent.joins ∙ ap (λ z. dedent.token ∷ z) dedent.second.nothing)))
     dedent.second.gives
 body_of R xs v (inr t) = respell (Body R) No_body t.nothing t.gives
@@ -121,7 +118,7 @@ module _ {A : Type 0} (test : Test) {p : ℕ → Reader A} {R : Spelling A} {Sto
   pub one_or_more_complete : Complete (λ m. one_or_more test (p m)) (OneOrMore R) (λ rest. Stops rest × Avoids test rest) d
   unfolding one_or_more
   one_or_more_complete = spelled_complete (one_or_more_parts R) (then_complete c (λ a. last_complete (parts_complete test c begins at_part))
-    (λ a ys w rest t ends. subst (λ (z : List Token). Stops (z ++ rest)) (sym (with_nothing t.joins t.second.nothing)) (more_there t.first rest ends.0)))
+      (λ a ys w rest t ends. subst (λ (z : List Token). Stops (z ++ rest)) (sym (with_nothing t.joins t.second.nothing)) (more_there t.first rest ends.0)))
 
 -- parts begin with a token that doesn't pass a test
 abbrev pub PartsAvoid : {A : Type 0} → Test → Spelling A → Type 0
@@ -151,11 +148,11 @@ module _ {A : Type 0} (closes : Test) {p : ℕ → Reader A} {R : Spelling A} {S
   pub separated_complete : Complete (λ m. separated closes (p m)) (Separated R) (Begins closes) d
   unfolding separated
   separated_complete = spelled_complete (separated_parts R) (choose_complete closes (done_complete (Begins closes))
-    (then_complete c (λ a. last_complete (stops_complete (λ rest closed. (at_close rest closed, no_comma rest closed))
-        (many_complete (is_symbol symbol.Comma) (comma_complete c) (commas_begin R) at_comma)))
+      (then_complete c (λ a. last_complete (stops_complete (λ rest closed. (at_close rest closed, no_comma rest closed))
+      (many_complete (is_symbol symbol.Comma) (comma_complete c) (commas_begin R) at_comma)))
       (λ a ys w rest t closed. subst (λ (z : List Token). Stops (z ++ rest)) (sym (with_nothing t.joins t.second.nothing)) (commas_there t.first rest closed)))
-    (λ xs v rest t closed. subst (λ (z : List Token). Begins closes (z ++ rest)) (sym t.nothing) closed)
-    some_avoid)
+      (λ xs v rest t closed. subst (λ (z : List Token). Begins closes (z ++ rest)) (sym t.nothing) closed)
+      some_avoid)
 
 dedent_stays : (rest : List Token) → Begins is_dedent rest → Avoids stays rest
 dedent_stays [] begins = tt
@@ -166,11 +163,11 @@ module _ {A : Type 0} {p : ℕ → Reader A} {R : Spelling A} {d : ℕ} (c : Com
   pub body_complete : Complete (λ m. body (p m)) (Body R) (Avoids is_indent) d
   unfolding body
   body_complete = spelled_complete (body_parts R) (choose_complete is_indent
-    (next_complete one_complete (λ indent. then_complete (one_or_more_complete stays c begins (λ xs v rest r. tt)) (λ items. next_complete one_complete (λ dedent. done_complete (Avoids is_indent)))
+      (next_complete one_complete (λ indent. then_complete (one_or_more_complete stays c begins (λ xs v rest r. tt)) (λ items. next_complete one_complete (λ dedent. done_complete (Avoids is_indent)))
       (λ items ys w rest t ends. (tt, dedents ys w rest t))))
-    (done_complete (Avoids is_indent))
-    (λ xs v rest t ends. indents xs v rest t)
-    (λ xs v rest t ends. subst (λ (z : List Token). Avoids is_indent (z ++ rest)) (sym t.nothing) ends))
+      (done_complete (Avoids is_indent))
+      (λ xs v rest t ends. indents xs v rest t)
+      (λ xs v rest t ends. subst (λ (z : List Token). Avoids is_indent (z ++ rest)) (sym t.nothing) ends))
     where
       dedents : {items : List A} (ys : List Token) (w : List A) (rest : List Token) → Then (IsOne is_dedent) (λ dedent. IsDone items) ys w → Avoids stays (ys ++ rest)
       dedents ys w rest t = let dedent = opened t in

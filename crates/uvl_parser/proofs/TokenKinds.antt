@@ -1,6 +1,6 @@
 -- What a token's kind is where a test of it holds.
-use Rattle.std.specs.Prelude.{◌≡◌, ℕ, zero, suc, Bool, true, false, ◌==◌, Option, Some, None}
-use Rattle.std.proofs.Common.{refl, sym, ap, ◌∙◌, eqb→eq, arith}
+use Rattle.std.specs.Prelude.{◌≡◌, ℕ, zero, suc, true, ◌==◌}
+use Rattle.std.proofs.Common.{refl, sym, ap, ◌∙◌, arith}
 use Rattle.std.proofs.lemmas.Bool.Decides.{nat_tests}
 use Rattle.uvl_lexer.specs.declared.token.TokenKind.{TokenKind}
 use Rattle.uvl_lexer.specs.declared.token.TokenKind.TheVariants as token
@@ -8,7 +8,7 @@ use Rattle.uvl_lexer.specs.declared.token.Word.{Word}
 use Rattle.uvl_lexer.specs.declared.token.Word.TheVariants as word
 use Rattle.uvl_lexer.specs.declared.token.Symbol.{Symbol}
 use Rattle.uvl_lexer.specs.declared.token.Symbol.TheVariants as symbol
-use Rattle.uvl_parser.specs.Tests.{is_word, is_symbol, is_newline, is_indent, is_dedent, is_finish, is_there, number_of_word, number_of_symbol}
+use Rattle.uvl_parser.specs.Tests.{is_word, is_symbol, is_newline, is_indent, is_dedent, is_finish, number_of_word, number_of_symbol}
 
 -- the word of a number, and the symbol of one
 word_at : ℕ → Word

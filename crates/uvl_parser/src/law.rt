@@ -1,7 +1,13 @@
-//! The law of parsing.
+//! The laws of the grammar and of parsing.
+ghost use Rattle.uvl_parser.specs.Law.{EachListSpellsOneFile};
 ghost use Rattle.uvl_parser.specs.Parsing.{EachTokenListIsParsedOnce};
 
 /// Each list of tokens is parsed as one file or refused at one place for one kind of fault, and never both.
 pub fn every_token_list_is_parsed_once()
     ensures { EachTokenListIsParsedOnce }
+{}
+
+/// No list of tokens spells two files.
+pub fn every_token_list_spells_one_file()
+    ensures { EachListSpellsOneFile }
 {}

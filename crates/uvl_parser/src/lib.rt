@@ -20,5 +20,5 @@ mod tokens;
 mod values;
 
 pub use fault::ParseFault;
-pub use law::every_token_list_is_parsed_once;
+pub use law::{every_token_list_is_parsed_once, every_token_list_spells_one_file};
 pub use parser::parse;

@@ -32,10 +32,7 @@ pub(crate) fn namespace(alloc: Global, tokens: &[Token]) -> Result<(Option<Ref>,
 
 /// Reads `features = "features" Newline Indent feature Dedent`, where it stands.
 #[tactic(auto, unfolding(crate::specs::Readers::Sections::features, crate::specs::Reading::choose, crate::specs::Reading::bind, crate::specs::Reading::done))]
-pub(crate) fn features(
-    alloc: Global,
-    tokens: &[Token],
-) -> Result<(Option<Feature>, &[Token]), Stop>
+pub(crate) fn features(alloc: Global, tokens: &[Token]) -> Result<(Option<Feature>, &[Token]), Stop>
     ensures { Gives (λ r. (r.0, r.1.now)) result (features tokens.now) }
 {
     if begins_with_word(tokens, Word::Features) {

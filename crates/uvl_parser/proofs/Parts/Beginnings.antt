@@ -1,6 +1,6 @@
 -- What expressions, attributes and entries begin with.
-use Rattle.std.specs.Prelude.{◌≡◌, ℕ, zero, suc, Bool, true, false, not, List, [], ◌∷◌, ◌++◌, Some, ℤ}
-use Rattle.std.proofs.Common.{refl, sym, ap, ◌∙◌}
+use Rattle.std.specs.Prelude.{◌≡◌, ℕ, zero, suc, true, false, not, List, ◌∷◌, Some, ℤ}
+use Rattle.std.proofs.Common.{refl, ap}
 use Rattle.uvl_lexer.specs.declared.token.Token.{Token}
 use Rattle.uvl_lexer.specs.declared.token.TokenKind.{TokenKind}
 use Rattle.uvl_lexer.specs.declared.token.TokenKind.TheVariants as token
@@ -10,15 +10,15 @@ use Rattle.uvl_ast.specs.declared.names.Ref.{Ref}
 use Rattle.uvl_ast.specs.declared.expression.Expr.{Expr}
 use Rattle.uvl_ast.specs.declared.feature.Attribute.{Attribute}
 use Rattle.uvl_parser.specs.Tokens.{number_of}
-use Rattle.uvl_parser.specs.Tests.{Test, is_symbol, is_word}
+use Rattle.uvl_parser.specs.Tests.{Test, is_symbol}
 use Rattle.uvl_parser.specs.Shapes.{Spelling}
 use Rattle.uvl_parser.specs.Refs.{SpellsRef}
 use Rattle.uvl_parser.specs.Refs as refs
-use Rattle.uvl_parser.specs.Expressions.{Operators, Grouped, Alone, Joined, SpellsPrimary, Parentheses, Literal, Negative, Sum, Reference, SpellsSum, SpellsComparison, Compared, Not_compared, SpellsOperand, Opposite, Comparison, OperandWithin, ExprWithin, SpellsExpr}
+use Rattle.uvl_parser.specs.Expressions.{Operators, Grouped, Alone, Joined, SpellsPrimary, Parentheses, Literal, Negative, Sum, Reference, SpellsSum, SpellsComparison, Compared, Not_compared, SpellsOperand, Opposite, Comparison, OperandWithin, SpellsExpr}
 use Rattle.uvl_parser.specs.Values.{SpellsAttribute, Bare, Valued, SpellsPlain, ValueWithin}
 use Rattle.uvl_parser.specs.declared.braces.Entry.{Entry}
 use Rattle.uvl_parser.specs.Braces.{SpellsEntry, Attribute_entry, Constraint, Constraints}
-use Rattle.uvl_parser.proofs.Completing.{Begins, Avoids}
+use Rattle.uvl_parser.proofs.Completing.{Begins}
 use Rattle.uvl_parser.proofs.Firsts.{is_name, name_is, name_fails, begins_longer, begins_not}
 
 -- whether an expression begins

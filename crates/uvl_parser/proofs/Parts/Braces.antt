@@ -1,31 +1,27 @@
 -- Braces are read exactly.
-use Rattle.std.specs.Prelude.{◌≡◌, ℕ, ◌<◌, ◌⊎◌, Bool, true, false, not, List, [], ◌∷◌, ◌++◌, length, Some, None}
+use Rattle.std.specs.Prelude.{◌≡◌, ℕ, List, [], ◌∷◌, ◌++◌}
 use Rattle.std.proofs.Common.{refl, sym, ap, subst, ◌∙◌, inl, inr, arith}
 use Rattle.uvl_base.specs.declared.place.Place.{Place}
 use Rattle.uvl_lexer.specs.declared.token.Token.{Token}
-use Rattle.uvl_lexer.specs.declared.token.TokenKind.{TokenKind}
 use Rattle.uvl_lexer.specs.declared.token.TokenKind.TheVariants as token
 use Rattle.uvl_lexer.specs.declared.token.Word.{Word}
 use Rattle.uvl_lexer.specs.declared.token.Word.TheVariants as word
 use Rattle.uvl_lexer.specs.declared.token.Symbol.{Symbol}
 use Rattle.uvl_lexer.specs.declared.token.Symbol.TheVariants as symbol
 use Rattle.uvl_ast.specs.declared.expression.Expr.{Expr}
-use Rattle.uvl_parser.specs.Tests.{Test, is_word, is_symbol, is_newline, begins_value}
+use Rattle.uvl_parser.specs.Tests.{is_word, is_symbol, is_newline, begins_value}
 use Rattle.uvl_parser.specs.Shapes.{Spelling, Separated}
 use Rattle.uvl_parser.specs.Expressions.{SpellsExpr}
-use Rattle.uvl_parser.specs.Values.{SpellsAttribute, Bare, Valued, SpellsPlain}
+use Rattle.uvl_parser.specs.Values.{SpellsPlain}
 use Rattle.uvl_parser.specs.declared.braces.Entry.{Entry}
 use Rattle.uvl_parser.specs.declared.braces.Entry.TheVariants.{Plain, Rule, Rules}
 use Rattle.uvl_parser.specs.Braces.{SpellsEntry, Attribute_entry, Constraint, Constraints, SpellsBraces, No_braces, Entries}
-use Rattle.uvl_parser.specs.Reading.{Reader, done, bind, one, accept, choose, separated}
-use Rattle.uvl_parser.specs.Readers.Values.{attribute}
-use Rattle.uvl_parser.specs.Readers.Expressions.{expression}
 use Rattle.uvl_parser.specs.Readers.Braces.{rule_list, entry, braces}
 use Rattle.uvl_parser.proofs.TokenKinds.{word_kind, kind_word, symbol_kind, kind_symbol, newline_kind}
-use Rattle.uvl_parser.proofs.Readers.{Good, Then, IsOne, IsAccepted, IsDone, Either, HasToken, then_good, spelled_so, done_good, choose_good, opened, taken, respell}
-use Rattle.uvl_parser.proofs.Completing.{Rest, Complete, Anything, Begins, Avoids, one_complete, accept_complete, next_complete, then_complete, last_complete, done_complete, spelled_complete, stops_complete, choose_complete, one_then, accept_then, part_then, part_last, done_now}
+use Rattle.uvl_parser.proofs.Readers.{Good, Then, IsOne, IsDone, Either, then_good, spelled_so, done_good, choose_good, opened, respell}
+use Rattle.uvl_parser.proofs.Completing.{Complete, Anything, Begins, Avoids, one_complete, next_complete, then_complete, last_complete, done_complete, spelled_complete, stops_complete, choose_complete, one_then, part_then, part_last, done_now}
 use Rattle.uvl_parser.proofs.Firsts.{symbol_avoids, word_avoids, name_avoids, is_name, begins_longer}
-use Rattle.uvl_parser.proofs.Shaped.{with_nothing, separated_good, separated_complete, PartsAvoid}
+use Rattle.uvl_parser.proofs.Shaped.{with_nothing, separated_good, separated_complete}
 use Rattle.uvl_parser.proofs.Parts.Samples.{word_good, symbol_good}
 use Rattle.uvl_parser.proofs.Parts.Expressions.Read.{binding, Looser}
 use Rattle.uvl_parser.proofs.Parts.Expressions.Whole.{expression_good, expression_complete}
@@ -63,7 +59,7 @@ rules_of_list t is xs rules r =
     let left = opened r in
     let right = opened left.second.second in
     respell SpellsEntry (Constraints t left.token right.token is (symbol_kind symbol.LeftBracket left.token.kind left.passes) left.second.first
-      (symbol_kind symbol.RightBracket right.token.kind right.passes))
+    (symbol_kind symbol.RightBracket right.token.kind right.passes))
     (ap (λ z. t ∷ z) (left.joins ∙ ap (λ z. left.token ∷ z) (left.second.joins ∙ ap (λ z. left.second.front ++ z) (right.joins ∙ ap (λ z. right.token ∷ z) right.second.nothing))))
     (ap Rules right.second.gives)
 
@@ -83,7 +79,7 @@ unfolding entry
 entry_good = spelled_so entry_of (choose_good (is_word word.Constraint)
     (then_good (word_good word.Constraint) (λ place. then_good expression_good (λ rule. done_good)))
     (choose_good (is_word word.Constraints) (then_good (word_good word.Constraints) (λ place. then_good rule_list_good (λ rules. done_good)))
-      (then_good plain_good (λ a. done_good))))
+    (then_good plain_good (λ a. done_good))))
 
 abbrev BracesParts : Spelling (List Entry)
 BracesParts = Either (Then (IsOne (is_symbol symbol.LeftBrace)) (λ left. Then (Separated SpellsEntry) (λ entries.
@@ -94,7 +90,7 @@ braces_of xs entries (inl t) =
     let left = opened t in
     let right = opened left.second.second in
     respell SpellsBraces (Entries left.token right.token (symbol_kind symbol.LeftBrace left.token.kind left.passes) left.second.first
-      (symbol_kind symbol.RightBrace right.token.kind right.passes))
+    (symbol_kind symbol.RightBrace right.token.kind right.passes))
     (left.joins ∙ ap (λ z. left.token ∷ z) (left.second.joins ∙ ap (λ z. left.second.front ++ z) (right.joins ∙ ap (λ z. right.token ∷ z) right.second.nothing)))
     right.second.gives
 braces_of xs entries (inr t) = respell SpellsBraces No_braces t.nothing t.gives
@@ -103,7 +99,7 @@ pub braces_good : {d n : ℕ} → Good (λ m. braces) SpellsBraces d n
 unfolding braces
 braces_good = spelled_so braces_of (choose_good (is_symbol symbol.LeftBrace)
     (then_good (symbol_good symbol.LeftBrace) (λ left. then_good (separated_good (is_symbol symbol.RightBrace) entry_good) (λ entries.
-      then_good (symbol_good symbol.RightBrace) (λ right. done_good))))
+    then_good (symbol_good symbol.RightBrace) (λ right. done_good))))
     done_good)
 
 -- ---- what is spelled is read
@@ -118,7 +114,7 @@ rule_list_complete : {d : ℕ} → Complete (λ m. rule_list) RuleListParts Anyt
 unfolding rule_list
 rule_list_complete = next_complete one_complete (λ left. then_complete
     (separated_complete (is_symbol symbol.RightBracket) expression_complete expressions_avoid (symbol_looser symbol.Comma refl) (symbol_looser symbol.RightBracket refl)
-      (symbol_avoids symbol.RightBracket (is_symbol symbol.Comma) refl))
+    (symbol_avoids symbol.RightBracket (is_symbol symbol.Comma) refl))
     (λ rules. next_complete one_complete (λ right. done_complete Anything))
     (λ rules ys w rest t any. opens_with_symbol symbol.RightBracket ys w rest t))
 
@@ -138,7 +134,7 @@ entry_parts xs e (Attribute_entry r) = inr (inr (part_last _ r))
 entry_parts xs e (Constraint t is r) = inl (one_then t (kind_word word.Constraint t.kind is) (part_last _ r))
 entry_parts xs e (Constraints t left right is opens r closes) =
     inr (inl (one_then t (kind_word word.Constraints t.kind is) (part_last _
-      (one_then left (kind_symbol symbol.LeftBracket left.kind opens) (part_then _ _ _ r (one_then right (kind_symbol symbol.RightBracket right.kind closes) done_now))))))
+    (one_then left (kind_symbol symbol.LeftBracket left.kind opens) (part_then _ _ _ r (one_then right (kind_symbol symbol.RightBracket right.kind closes) done_now))))))
 
 plain_avoids : (w : Word) (xs : List Token) (e : Entry) (rest : List Token) → Then SpellsPlain (λ a. IsDone (Plain a)) xs e → Avoids (is_word w) (xs ++ rest)
 plain_avoids w xs e rest t =
@@ -156,8 +152,8 @@ unfolding entry
 entry_complete = spelled_complete entry_parts (choose_complete (is_word word.Constraint)
     (next_complete one_complete (λ place. last_complete (stops_complete (λ rest stops. stops.rule) expression_complete)))
     (choose_complete (is_word word.Constraints) (next_complete one_complete (λ place. last_complete (stops_complete (λ rest stops. tt) rule_list_complete)))
-      (last_complete (stops_complete (λ rest stops. stops.value) plain_complete))
-      (λ xs e rest t stops. opens_with_word word.Constraints xs e rest t) (λ xs e rest t stops. plain_avoids word.Constraints xs e rest t))
+    (last_complete (stops_complete (λ rest stops. stops.value) plain_complete))
+    (λ xs e rest t stops. opens_with_word word.Constraints xs e rest t) (λ xs e rest t stops. plain_avoids word.Constraints xs e rest t))
     (λ xs e rest t stops. opens_with_word word.Constraint xs e rest t) others_avoid)
 
 braces_parts : (xs : List Token) (entries : List Entry) → SpellsBraces xs entries → BracesParts xs entries
@@ -170,9 +166,9 @@ pub braces_complete : {d : ℕ} → Complete (λ m. braces) SpellsBraces (Avoids
 unfolding braces
 braces_complete = spelled_complete braces_parts (choose_complete (is_symbol symbol.LeftBrace)
     (next_complete one_complete (λ left. then_complete
-      (separated_complete (is_symbol symbol.RightBrace) entry_complete entries_avoid comma_stops brace_stops (symbol_avoids symbol.RightBrace (is_symbol symbol.Comma) refl))
-      (λ entries. next_complete one_complete (λ right. done_complete (Avoids (is_symbol symbol.LeftBrace))))
-      (λ entries ys w rest t avoids. opens_with_symbol symbol.RightBrace ys w rest t)))
+    (separated_complete (is_symbol symbol.RightBrace) entry_complete entries_avoid comma_stops brace_stops (symbol_avoids symbol.RightBrace (is_symbol symbol.Comma) refl))
+    (λ entries. next_complete one_complete (λ right. done_complete (Avoids (is_symbol symbol.LeftBrace))))
+    (λ entries ys w rest t avoids. opens_with_symbol symbol.RightBrace ys w rest t)))
     (done_complete (Avoids (is_symbol symbol.LeftBrace)))
     (λ xs entries rest t avoids. opens_with_symbol symbol.LeftBrace xs entries rest t)
     (λ xs entries rest t avoids. subst (λ (z : List Token). Avoids (is_symbol symbol.LeftBrace) (z ++ rest)) (sym t.nothing) avoids))

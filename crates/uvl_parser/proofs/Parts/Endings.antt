@@ -1,8 +1,7 @@
 -- A spelled file has its Finish token last and once: no part of the grammar has one.
-use Rattle.std.specs.Prelude.{◌≡◌, ℕ, zero, suc, List, [], ◌∷◌, ◌++◌, Option, Some, None}
-use Rattle.std.proofs.Common.{refl, sym, ap, subst, ◌∙◌}
+use Rattle.std.specs.Prelude.{◌≡◌, ℕ, zero, suc, List, [], ◌∷◌, ◌++◌, Some, None}
+use Rattle.std.proofs.Common.{refl, sym, ap, ◌∙◌}
 use Rattle.uvl_lexer.specs.declared.token.Token.{Token}
-use Rattle.uvl_lexer.specs.declared.token.TokenKind.{TokenKind}
 use Rattle.uvl_lexer.specs.declared.token.TokenKind.TheVariants as token
 use Rattle.uvl_lexer.specs.declared.token.Word.{Word}
 use Rattle.uvl_lexer.specs.declared.token.Symbol.{Symbol}
@@ -10,7 +9,7 @@ use Rattle.uvl_ast.specs.declared.file.File.{File}
 use Rattle.uvl_ast.specs.declared.expression.Expr.{Expr}
 use Rattle.uvl_ast.specs.declared.feature.AttrValue.{AttrValue}
 use Rattle.uvl_ast.specs.declared.feature.Feature.{Feature}
-use Rattle.uvl_parser.specs.Tokens.{IsWord, IsSymbol, IsNewline, IsIndent, IsDedent, IsFinish, name_of, number_of, whole_of, text_of}
+use Rattle.uvl_parser.specs.Tokens.{IsWord, IsSymbol, IsNewline, IsIndent, IsDedent, name_of, number_of, whole_of, text_of}
 use Rattle.uvl_parser.specs.Shapes.{Spelling, Repeated, None_more, One_more, OneOrMore, First, BehindComma, Comma, Separated, Nothing, Parts, Body, No_body, Indented}
 use Rattle.uvl_parser.specs.Refs as refs
 use Rattle.uvl_parser.specs.Refs.{SpellsDotName, SpellsRef}
@@ -200,7 +199,7 @@ group : (Member : Spelling Feature) → Unfinished Member → Unfinished (Spells
 group Member h xs v (features.Members {xs = us} {ys = vs} newline indent dedent {front} {members} k ends opens r closes) =
     both (us ++ newline ∷ indent ∷ vs) (dedent ∷ [])
     (both us (newline ∷ indent ∷ vs) (kind us front k)
-      (newline_goes_on newline ends, (indent_goes_on indent opens, one_or_more Member h vs members r)))
+    (newline_goes_on newline ends, (indent_goes_on indent opens, one_or_more Member h vs members r)))
     (dedent_goes_on dedent closes, tt)
 
 feature : (Member : Spelling Feature) → Unfinished Member → Unfinished (SpellsFeature Member)
@@ -279,8 +278,8 @@ file_front tokens f (A_file {ns} {ls} {ms} {fs} {rs} finish {namespace = n} {lev
   unfinished =
       both (ns ++ ls ++ ms ++ fs) rs
       (both (ns ++ ls ++ ms) fs
-        (both (ns ++ ls) ms (both ns ls (namespace ns n named) (section _ SpellsLevel level ls levels included)) (section _ SpellsImport imported ms imports imported_so))
-        (root fs r below))
+      (both (ns ++ ls) ms (both ns ls (namespace ns n named) (section _ SpellsLevel level ls levels included)) (section _ SpellsImport imported ms imports imported_so))
+      (root fs r below))
       (section _ SpellsRule rule rs rules ruled);
 }
 

@@ -1,5 +1,5 @@
 -- The tree of features is read exactly.
-use Rattle.std.specs.Prelude.{◌≡◌, ℕ, zero, suc, ◌<◌, ◌-◌, ◌⊎◌, Bool, true, false, not, List, [], ◌∷◌, ◌++◌, length, Err}
+use Rattle.std.specs.Prelude.{◌≡◌, ℕ, zero, suc, ◌<◌, ◌-◌, Bool, true, false, not, List, [], ◌∷◌, ◌++◌}
 use Rattle.std.proofs.Common.{refl, sym, ap, subst, ◌∙◌, inl, inr, arith, append_assoc}
 use Rattle.uvl_base.specs.declared.place.Place.{Place}
 use Rattle.uvl_lexer.specs.declared.token.Token.{Token}
@@ -15,19 +15,16 @@ use Rattle.uvl_parser.specs.Shapes.{Spelling, OneOrMore, Body, No_body}
 use Rattle.uvl_parser.specs.Refs.{SpellsRef}
 use Rattle.uvl_parser.specs.declared.braces.Entry.{Entry}
 use Rattle.uvl_parser.specs.Braces.{attributes_of, rules_of, SpellsBraces, No_braces, Entries}
-use Rattle.uvl_parser.specs.Groups.{GroupFront, SpellsKind}
+use Rattle.uvl_parser.specs.Groups.{SpellsKind}
 use Rattle.uvl_parser.specs.Features.{SpellsBoolean, Not_said, Said, SpellsGroup, Members, SpellsFeature, Line, FeatureWithin, SpellsTree}
-use Rattle.uvl_parser.specs.Reading.{Reader, done, bind, one, choose, one_or_more, body, closed}
-use Rattle.uvl_parser.specs.Readers.Refs.{reference}
-use Rattle.uvl_parser.specs.Readers.Braces.{braces}
-use Rattle.uvl_parser.specs.Readers.Groups.{group_front}
+use Rattle.uvl_parser.specs.Reading.{Reader}
 use Rattle.uvl_parser.specs.Readers.Features.{boolean, group_with, feature_with, feature_at, tree}
-use Rattle.uvl_parser.proofs.TokenKinds.{word_kind, kind_word, newline_kind, indent_kind, dedent_kind, symbol_kind}
-use Rattle.uvl_parser.proofs.Readers.{Good, Then, Example, IsOne, IsAccepted, IsDone, Either, HasToken, then_good, spelled_so, done_good, choose_good, good_closed, Opened, opened, taken, respell}
-use Rattle.uvl_parser.proofs.Completing.{Rest, Complete, Anything, Begins, Avoids, PartsBegin, has_token, one_complete, next_complete, then_complete, last_complete, done_complete, spelled_complete, stops_complete, choose_complete, complete_deeper, complete_closed, one_then, part_then, part_last, done_now}
+use Rattle.uvl_parser.proofs.TokenKinds.{word_kind, kind_word, newline_kind, indent_kind, dedent_kind}
+use Rattle.uvl_parser.proofs.Readers.{Good, Then, Example, IsOne, IsDone, Either, HasToken, then_good, spelled_so, done_good, choose_good, good_closed, Opened, opened, respell}
+use Rattle.uvl_parser.proofs.Completing.{Complete, Anything, Begins, Avoids, PartsBegin, has_token, one_complete, next_complete, then_complete, last_complete, done_complete, spelled_complete, choose_complete, complete_deeper, complete_closed, one_then, part_then, part_last, done_now}
 use Rattle.uvl_parser.proofs.Opened.{good_deeper}
 use Rattle.uvl_parser.proofs.Deeper.{behind_good}
-use Rattle.uvl_parser.proofs.Firsts.{is_name, name_fails, name_avoids, symbol_avoids, newline_avoids, dedent_avoids, begins_longer, begins_avoids}
+use Rattle.uvl_parser.proofs.Firsts.{is_name, name_avoids, newline_avoids, dedent_avoids, begins_longer, begins_avoids}
 use Rattle.uvl_parser.proofs.Shaped.{with_nothing, one_or_more_good, one_or_more_complete, body_good, body_complete}
 use Rattle.uvl_parser.proofs.Parts.Samples.{sample, word_good, newline_good, indent_good, dedent_good}
 use Rattle.uvl_parser.proofs.Parts.Refs.{reference_good, reference_complete}
@@ -130,10 +127,10 @@ group_of M xs g t =
     let indent = opened newline.second in
     let dedent = opened indent.second.second in
     respell (SpellsGroup M) (Members newline.token indent.token dedent.token t.first (newline_kind newline.token.kind newline.passes)
-      (indent_kind indent.token.kind indent.passes) indent.second.first (dedent_kind dedent.token.kind dedent.passes))
+    (indent_kind indent.token.kind indent.passes) indent.second.first (dedent_kind dedent.token.kind dedent.passes))
     (t.joins ∙ ap (λ z. t.front ++ z) (newline.joins ∙ ap (λ z. newline.token ∷ z) (indent.joins ∙ ap (λ z. indent.token ∷ z) (indent.second.joins
-      ∙ ap (λ z. indent.second.front ++ z) (dedent.joins ∙ ap (λ z. dedent.token ∷ z) dedent.second.nothing))))
-      ∙ sym (append_assoc t.front (newline.token ∷ indent.token ∷ indent.second.front) (dedent.token ∷ [])))
+    ∙ ap (λ z. indent.second.front ++ z) (dedent.joins ∙ ap (λ z. dedent.token ∷ z) dedent.second.nothing))))
+    ∙ sym (append_assoc t.front (newline.token ∷ indent.token ∷ indent.second.front) (dedent.token ∷ [])))
     dedent.second.gives
 
 group_good : {p : ℕ → Reader Feature} {M : Spelling Feature} {d n : ℕ} → Good p M d n → HasToken M → Good (λ m. group_with (p m)) (SpellsGroup M) d n
@@ -159,10 +156,10 @@ feature_of M xs f t =
     let newline = opened entries.second in
     let groups = newline.second in
     respell (SpellsFeature M) (Line newline.token (boolean_of t.front t.middle t.first) name.first entries.first
-      (newline_kind newline.token.kind newline.passes) groups.first)
+    (newline_kind newline.token.kind newline.passes) groups.first)
     (t.joins ∙ ap (λ z. t.front ++ z) (name.joins ∙ ap (λ z. name.front ++ z) (entries.joins ∙ ap (λ z. entries.front ++ z)
-      (newline.joins ∙ ap (λ z. newline.token ∷ z) (with_nothing groups.joins groups.second.nothing))))
-      ∙ four t.front name.front entries.front (newline.token ∷ groups.front))
+    (newline.joins ∙ ap (λ z. newline.token ∷ z) (with_nothing groups.joins groups.second.nothing))))
+    ∙ four t.front name.front entries.front (newline.token ∷ groups.front))
     groups.second.gives
 
 references_have : HasToken SpellsRef
@@ -210,7 +207,7 @@ module _ {p : ℕ → Reader Feature} {M : Spelling Feature} {d : ℕ} (c : Comp
   group_parts : (xs : List Token) (g : Group) → SpellsGroup M xs g → GroupParts M xs g
   group_parts xs g (Members {xs = fs} {ys} newline indent dedent front is opens members closes) =
       respell (GroupParts M) (part_then _ _ _ front (one_then newline (ap is_newline is) (one_then indent (ap is_indent opens)
-        (part_then _ _ _ members (one_then dedent (ap is_dedent closes) done_now)))))
+      (part_then _ _ _ members (one_then dedent (ap is_dedent closes) done_now)))))
       (append_assoc fs (newline ∷ indent ∷ ys) (dedent ∷ [])) refl
 
   no_indent : (kind : TokenKind) → begins_feature kind ≡ true → is_indent kind ≡ false
@@ -220,11 +217,11 @@ module _ {p : ℕ → Reader Feature} {M : Spelling Feature} {d : ℕ} (c : Comp
   unfolding group_with
   group_complete = spelled_complete group_parts (next_complete front_complete (λ front. next_complete one_complete (λ newline. next_complete one_complete (λ indent.
       then_complete (one_or_more_complete stays c (λ xs f r. stays_so xs (begin xs f r))
-          (λ xs f rest r. begins_avoids begins_feature is_indent no_indent (xs ++ rest) (begins_longer begins_feature xs rest (begin xs f r))))
-        (λ members. next_complete one_complete (λ dedent. done_complete Anything))
-        (λ members ys w rest t any. let dedent = opened t in
-          subst (λ (z : List Token). Avoids is_indent (z ++ rest) × Avoids stays (z ++ rest)) (sym dedent.joins)
-          (dedent_avoids is_indent refl (dedent.token ∷ dedent.back ++ rest) dedent.passes, ap not dedent.passes))))))
+      (λ xs f rest r. begins_avoids begins_feature is_indent no_indent (xs ++ rest) (begins_longer begins_feature xs rest (begin xs f r))))
+      (λ members. next_complete one_complete (λ dedent. done_complete Anything))
+      (λ members ys w rest t any. let dedent = opened t in
+      subst (λ (z : List Token). Avoids is_indent (z ++ rest) × Avoids stays (z ++ rest)) (sym dedent.joins)
+      (dedent_avoids is_indent refl (dedent.token ∷ dedent.back ++ rest) dedent.passes, ap not dedent.passes))))))
 
   feature_parts : (xs : List Token) (f : Feature) → SpellsFeature M xs f → FeatureParts M xs f
   feature_parts xs f (Line {bs} {xs = rs} {ys} {zs} newline said r entries is groups) =
@@ -244,16 +241,16 @@ module _ {p : ℕ → Reader Feature} {M : Spelling Feature} {d : ℕ} (c : Comp
   unfolding feature_with
   feature_complete = spelled_complete feature_parts (then_complete boolean_complete
       (λ said. then_complete reference_complete
-        (λ name. then_complete braces_complete
-          (λ entries. next_complete one_complete (λ newline. last_complete (body_complete group_complete (groups_stay M))))
-          (λ entries ys f rest t ends. let newline = opened t in
-            subst (λ (z : List Token). Avoids (is_symbol symbol.LeftBrace) (z ++ rest)) (sym newline.joins)
-            (newline_avoids (is_symbol symbol.LeftBrace) refl (newline.token ∷ newline.back ++ rest) newline.passes)))
-        (λ name ys f rest t ends. line_avoids (is_symbol symbol.Dot) refl refl name ys f rest t))
+      (λ name. then_complete braces_complete
+      (λ entries. next_complete one_complete (λ newline. last_complete (body_complete group_complete (groups_stay M))))
+      (λ entries ys f rest t ends. let newline = opened t in
+      subst (λ (z : List Token). Avoids (is_symbol symbol.LeftBrace) (z ++ rest)) (sym newline.joins)
+      (newline_avoids (is_symbol symbol.LeftBrace) refl (newline.token ∷ newline.back ++ rest) newline.passes)))
+      (λ name ys f rest t ends. line_avoids (is_symbol symbol.Dot) refl refl name ys f rest t))
       (λ said ys f rest t ends.
-        subst (λ (z : List Token). Avoids (is_word word.Boolean) (z ++ rest)) (sym t.joins)
-        (subst (λ (z : List Token). Avoids (is_word word.Boolean) z) (sym (append_assoc t.front t.back rest))
-          (name_avoids (is_word word.Boolean) (λ name quoted. refl) (t.front ++ (t.back ++ rest)) (begins_longer is_name t.front (t.back ++ rest) (reference_begins t.first))))))
+      subst (λ (z : List Token). Avoids (is_word word.Boolean) (z ++ rest)) (sym t.joins)
+      (subst (λ (z : List Token). Avoids (is_word word.Boolean) z) (sym (append_assoc t.front t.back rest))
+      (name_avoids (is_word word.Boolean) (λ name quoted. refl) (t.front ++ (t.back ++ rest)) (begins_longer is_name t.front (t.back ++ rest) (reference_begins t.first))))))
 
 feature_at_complete : (d : ℕ) → Complete feature_at (FeatureWithin d) (Avoids is_indent) d
 feature_at_complete zero = record { reads = λ m le xs f rest r avoids. absurd r }

@@ -1,5 +1,5 @@
 -- Files are read exactly.
-use Rattle.std.specs.Prelude.{◌≡◌, ℕ, ◌⊎◌, Bool, true, false, List, [], ◌∷◌, ◌++◌, Option}
+use Rattle.std.specs.Prelude.{◌≡◌, ℕ, false, List, [], ◌∷◌, ◌++◌, Option}
 use Rattle.std.proofs.Common.{refl, sym, ap, subst, ◌∙◌, append_assoc}
 use Rattle.uvl_base.specs.declared.place.Place.{Place}
 use Rattle.uvl_lexer.specs.declared.token.Token.{Token}
@@ -15,11 +15,10 @@ use Rattle.uvl_parser.specs.Tests.{Test, is_word, is_indent, is_finish}
 use Rattle.uvl_parser.specs.Shapes.{Spelling}
 use Rattle.uvl_parser.specs.Sections.{SpellsSection, No_section, Lines, SpellsNamespace, SpellsLevel, SpellsImport, SpellsFeatures, No_features, Root, SpellsRule}
 use Rattle.uvl_parser.specs.File.{Spells, A_file}
-use Rattle.uvl_parser.specs.Reading.{bind, one, done}
 use Rattle.uvl_parser.specs.Readers.File.{file}
 use Rattle.uvl_parser.proofs.TokenKinds.{finish_kind}
 use Rattle.uvl_parser.proofs.Readers.{Good, Then, IsOne, IsDone, then_good, spelled_so, done_good, opened, respell}
-use Rattle.uvl_parser.proofs.Completing.{Rest, Complete, Anything, Avoids, has_token, one_complete, next_complete, then_complete, done_complete, spelled_complete, one_then, part_then, done_now}
+use Rattle.uvl_parser.proofs.Completing.{Complete, Anything, Avoids, has_token, one_complete, next_complete, then_complete, done_complete, spelled_complete, one_then, part_then, done_now}
 use Rattle.uvl_parser.proofs.Firsts.{finish_avoids}
 use Rattle.uvl_parser.proofs.Parts.Samples.{finish_good}
 use Rattle.uvl_parser.proofs.Parts.Sections.{section_good, section_complete, namespace_good, namespace_complete, level_good, level_complete, levels_stay, import_good, import_complete, imports_stay, features_good, features_complete, rule_good, rule_complete, rules_stay}
@@ -63,14 +62,14 @@ file_of xs f t =
     let finish = opened rules.second in
     respell Spells (A_file finish.token t.first levels.first imports.first root.first rules.first (finish_kind finish.token.kind finish.passes))
     (t.joins ∙ ap (λ z. t.front ++ z) (levels.joins ∙ ap (λ z. levels.front ++ z) (imports.joins ∙ ap (λ z. imports.front ++ z) (root.joins
-      ∙ ap (λ z. root.front ++ z) (rules.joins ∙ ap (λ z. rules.front ++ z) (finish.joins ∙ ap (λ z. finish.token ∷ z) finish.second.nothing)))))
-      ∙ six t.front levels.front imports.front root.front rules.front (finish.token ∷ []))
+    ∙ ap (λ z. root.front ++ z) (rules.joins ∙ ap (λ z. rules.front ++ z) (finish.joins ∙ ap (λ z. finish.token ∷ z) finish.second.nothing)))))
+    ∙ six t.front levels.front imports.front root.front rules.front (finish.token ∷ []))
     finish.second.gives
 
 file_parts : (xs : List Token) (f : File) → Spells xs f → FileParts xs f
 file_parts xs f (A_file {ns} {ls} {ms} {fs} {rs} finish name levels imports root rules is) =
     respell FileParts (part_then _ _ _ name (part_then _ _ _ levels (part_then _ _ _ imports (part_then _ _ _ root (part_then _ _ _ rules
-      (one_then finish (ap is_finish is) done_now))))))
+    (one_then finish (ap is_finish is) done_now))))))
     (sym (six ns ls ms fs rs (finish ∷ []))) refl
 
 pub file_good : {d n : ℕ} → Good (λ m. file) Spells d n
@@ -136,14 +135,18 @@ pub file_complete : {d : ℕ} → Complete (λ m. file) Spells Anything d
 unfolding file
 file_complete = spelled_complete file_parts (then_complete namespace_complete
     (λ name. then_complete (section_complete word.Include level_complete levels_stay)
-      (λ levels. then_complete (section_complete word.Imports import_complete imports_stay)
-        (λ imports. then_complete features_complete
-          (λ root. then_complete (section_complete word.Constraints rule_complete rules_stay)
-            (λ rules. next_complete one_complete (λ finish. done_complete Anything))
-            (λ rules ys f rest t any. (at_finish (is_word word.Constraints) rest refl ys t, at_finish is_indent rest refl ys t)))
-          (λ root ys f rest t any. rules_avoid (is_word word.Features) f rest (record { finish = refl; rules = refl }) ys t))
-        (λ imports ys f rest t any. (features_avoid (is_word word.Imports) f rest (record { finish = refl; rules = refl }) refl ys t,
-          features_avoid is_indent f rest indent_ends refl ys t)))
-      (λ levels ys f rest t any. (imports_avoid (is_word word.Include) f rest (record { finish = refl; rules = refl }) refl refl ys t,
-        imports_avoid is_indent f rest indent_ends refl refl ys t)))
+    (λ levels. then_complete (section_complete word.Imports import_complete imports_stay)
+    (λ imports. then_complete features_complete
+    (λ root. then_complete (section_complete word.Constraints rule_complete rules_stay)
+    (λ rules. next_complete one_complete (λ finish. done_complete Anything))
+    (λ rules ys f rest t any. (at_finish (is_word word.Constraints) rest refl ys t, at_finish is_indent rest refl ys t)))
+    (λ root ys f rest t any. rules_avoid (is_word word.Features) f rest (record { finish = refl; rules = refl }) ys t))
+    (λ imports ys f rest t any. (
+      features_avoid (is_word word.Imports) f rest (record { finish = refl; rules = refl }) refl ys t,
+      features_avoid is_indent f rest indent_ends refl ys t,
+    )))
+    (λ levels ys f rest t any. (
+      imports_avoid (is_word word.Include) f rest (record { finish = refl; rules = refl }) refl refl ys t,
+      imports_avoid is_indent f rest indent_ends refl refl ys t,
+    )))
     (λ name ys f rest t any. include_avoid (is_word word.Namespace) f rest (record { finish = refl; rules = refl }) refl refl refl ys t))

@@ -1,26 +1,22 @@
 -- The fronts of groups are read exactly.
-use Rattle.std.specs.Prelude.{◌≡◌, ℕ, ◌<◌, ◌⊎◌, Bool, true, false, not, List, [], ◌∷◌, ◌++◌, length, Option, Some, None}
-use Rattle.std.proofs.Common.{refl, sym, ap, subst, ◌∙◌, inl, inr, arith}
-use Rattle.uvl_base.specs.declared.place.Place.{Place}
+use Rattle.std.specs.Prelude.{◌≡◌, ℕ, false, List, [], ◌∷◌, ◌++◌, Some, None}
+use Rattle.std.proofs.Common.{refl, sym, ap, subst, ◌∙◌, inl, inr}
 use Rattle.uvl_lexer.specs.declared.token.Token.{Token}
 use Rattle.uvl_lexer.specs.declared.token.TokenKind.{TokenKind}
 use Rattle.uvl_lexer.specs.declared.token.TokenKind.TheVariants as token
 use Rattle.uvl_lexer.specs.declared.token.Word.TheVariants as word
-use Rattle.uvl_lexer.specs.declared.token.Symbol.{Symbol}
 use Rattle.uvl_lexer.specs.declared.token.Symbol.TheVariants as symbol
 use Rattle.uvl_ast.specs.declared.feature.GroupKind.{GroupKind}
 use Rattle.uvl_ast.specs.declared.feature.GroupKind.TheVariants as group
 use Rattle.uvl_parser.specs.Tokens.{whole_of}
-use Rattle.uvl_parser.specs.Tests.{is_symbol, is_dedent, stays}
+use Rattle.uvl_parser.specs.Tests.{is_symbol, stays}
 use Rattle.uvl_parser.specs.Shapes.{Spelling}
 use Rattle.uvl_parser.specs.Groups.{GroupFront, SpellsKind, Mandatory, Optional, Alternative, Or, Exactly, Between, From}
-use Rattle.uvl_parser.specs.Reading.{Reader, done, bind, one, accept, choose}
 use Rattle.uvl_parser.specs.Readers.Groups.{kind_of, upper, range_from, range, group_front}
 use Rattle.uvl_parser.proofs.TokenKinds.{symbol_kind, kind_symbol}
-use Rattle.uvl_parser.proofs.Readers.{Good, Then, IsOne, IsAccepted, IsDone, Either, HasToken, then_good, spelled_so, done_good, choose_good, good_accept, opened, taken, respell}
-use Rattle.uvl_parser.proofs.Completing.{Rest, Complete, Anything, Begins, Avoids, PartsBegin, one_complete, accept_complete, next_complete, then_complete, last_complete, done_complete, spelled_complete, stops_complete, choose_complete, one_then, accept_then, part_then, part_last, done_now}
+use Rattle.uvl_parser.proofs.Readers.{Good, Then, IsOne, IsAccepted, IsDone, Either, then_good, spelled_so, done_good, choose_good, good_accept, opened, taken, respell}
+use Rattle.uvl_parser.proofs.Completing.{Complete, Anything, Begins, Avoids, PartsBegin, one_complete, accept_complete, next_complete, then_complete, last_complete, done_complete, spelled_complete, stops_complete, choose_complete, one_then, accept_then, part_then, done_now}
 use Rattle.uvl_parser.proofs.Firsts.{symbol_avoids}
-use Rattle.uvl_parser.proofs.Shaped.{with_nothing}
 use Rattle.uvl_parser.proofs.Parts.Samples.{sample, symbol_good, whole_good}
 
 abbrev UpperParts : ℕ → Spelling GroupKind
@@ -84,9 +80,9 @@ range_of xs front t =
     let right = opened low.second.second in
     respell SpellsKind
     (range_from_of left.token low.token low.value (symbol_kind symbol.LeftBracket left.token.kind left.passes) low.gives
-      low.second.front low.second.middle low.second.first right.token (symbol_kind symbol.RightBracket right.token.kind right.passes))
+    low.second.front low.second.middle low.second.first right.token (symbol_kind symbol.RightBracket right.token.kind right.passes))
     (left.joins ∙ ap (λ z. left.token ∷ z) (low.joins ∙ ap (λ z. low.token ∷ z) (low.second.joins
-      ∙ ap (λ z. low.second.front ++ z) (right.joins ∙ ap (λ z. right.token ∷ z) right.second.nothing))))
+    ∙ ap (λ z. low.second.front ++ z) (right.joins ∙ ap (λ z. right.token ∷ z) right.second.nothing))))
     right.second.gives
 
 -- the front that a word is
@@ -149,15 +145,15 @@ unfolding range
 range_complete = next_complete one_complete (λ place. next_complete accept_complete (λ lo. then_complete (range_from_complete lo.0)
     (λ kind. next_complete one_complete (λ right. done_complete Anything))
     (λ kind ys w rest t any. let right = opened t in
-      subst (λ (z : List Token). Avoids (is_symbol symbol.Dots) (z ++ rest)) (sym right.joins)
-      (symbol_avoids symbol.RightBracket (is_symbol symbol.Dots) refl (right.token ∷ right.back ++ rest) right.passes))))
+    subst (λ (z : List Token). Avoids (is_symbol symbol.Dots) (z ++ rest)) (sym right.joins)
+    (symbol_avoids symbol.RightBracket (is_symbol symbol.Dots) refl (right.token ∷ right.back ++ rest) right.passes))))
 
 range_made : (left low right : Token) (lo : ℕ) (kind : GroupKind) (ys : List Token) → left.kind ≡ token.Symbol symbol.LeftBracket
     → whole_of low.kind ≡ Some lo → RangeFromParts lo ys kind → right.kind ≡ token.Symbol symbol.RightBracket
     → FrontParts (left ∷ low ∷ ys ++ right ∷ []) (kind, left.place)
 range_made left low right lo kind ys opens whole r closes =
     inl (one_then left (kind_symbol symbol.LeftBracket left.kind opens) (accept_then low whole (part_then _ _ _ r
-      (one_then right (kind_symbol symbol.RightBracket right.kind closes) done_now))))
+    (one_then right (kind_symbol symbol.RightBracket right.kind closes) done_now))))
 
 word_made : (t : Token) (k : GroupKind) → kind_of t.kind ≡ Some k → FrontParts (t ∷ []) (k, t.place)
 word_made t k e = inr (record { token = t; alone = refl; gives = e; stands = refl })

@@ -1,7 +1,6 @@
 -- References are read exactly.
-use Rattle.std.specs.Prelude.{◌≡◌, ℕ, ◌<◌, List, [], ◌∷◌, ◌++◌, Some, true}
-use Rattle.std.proofs.Common.{refl, sym, ap, subst, ◌∙◌, arith, append-nil}
-use Rattle.uvl_base.specs.declared.place.Place.{Place}
+use Rattle.std.specs.Prelude.{ℕ, List, ◌∷◌, ◌++◌}
+use Rattle.std.proofs.Common.{ap, ◌∙◌, arith, append-nil}
 use Rattle.uvl_lexer.specs.declared.token.Token.{Token}
 use Rattle.uvl_lexer.specs.declared.token.Symbol.TheVariants as symbol
 use Rattle.uvl_ast.specs.declared.names.Ref.{Ref}
@@ -9,11 +8,10 @@ use Rattle.uvl_parser.specs.Tokens.{name_of}
 use Rattle.uvl_parser.specs.Tests.{is_symbol}
 use Rattle.uvl_parser.specs.Shapes.{Spelling, Repeated}
 use Rattle.uvl_parser.specs.Refs.{SpellsDotName, Dot_name, SpellsRef, Reference}
-use Rattle.uvl_parser.specs.Reading.{done, bind, one, accept, many}
 use Rattle.uvl_parser.specs.Readers.Refs.{dot_name, reference}
 use Rattle.uvl_parser.proofs.TokenKinds.{symbol_kind, kind_symbol}
 use Rattle.uvl_parser.proofs.Readers.{Good, Then, IsOne, IsAccepted, IsDone, HasToken, then_good, spelled_so, done_good, many_good, opened, taken, respell}
-use Rattle.uvl_parser.proofs.Completing.{Rest, Complete, Anything, Begins, Avoids, PartsBegin, one_complete, accept_complete, next_complete, last_complete, spelled_complete, stops_complete, many_complete, one_then, accept_then, part_then, part_last, done_now}
+use Rattle.uvl_parser.proofs.Completing.{Complete, Anything, Avoids, PartsBegin, one_complete, accept_complete, next_complete, last_complete, spelled_complete, stops_complete, many_complete, one_then, accept_then, part_last, done_now}
 use Rattle.uvl_parser.proofs.Parts.Samples.{symbol_good, name_good}
 
 -- ---- what is read is spelled

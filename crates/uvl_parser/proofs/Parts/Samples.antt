@@ -1,5 +1,5 @@
 -- Tokens of each kind, to complete parts with, and the readers of one token.
-use Rattle.std.specs.Prelude.{◌≡◌, ℕ, ◌∷◌, [], true, Option, Some, List, pos, false}
+use Rattle.std.specs.Prelude.{ℕ, ◌∷◌, [], true, pos, false}
 use Rattle.std.proofs.Common.{refl}
 use Rattle.uvl_lexer.specs.declared.token.Token.{Token}
 use Rattle.uvl_lexer.specs.declared.token.TokenKind.{TokenKind}

@@ -1,6 +1,6 @@
 -- The sections of a file are read exactly.
-use Rattle.std.specs.Prelude.{◌≡◌, ℕ, ◌<◌, ◌⊎◌, Bool, true, false, not, List, [], ◌∷◌, ◌++◌, length, Option, Some, None}
-use Rattle.std.proofs.Common.{refl, sym, ap, subst, ◌∙◌, inl, inr, arith, append_assoc}
+use Rattle.std.specs.Prelude.{◌≡◌, ℕ, true, false, List, [], ◌∷◌, ◌++◌, Option, Some, None}
+use Rattle.std.proofs.Common.{refl, sym, ap, subst, ◌∙◌, inl, inr, append_assoc}
 use Rattle.uvl_base.specs.declared.place.Place.{Place}
 use Rattle.uvl_lexer.specs.declared.token.Token.{Token}
 use Rattle.uvl_lexer.specs.declared.token.TokenKind.{TokenKind}
@@ -18,15 +18,12 @@ use Rattle.uvl_parser.specs.Refs.{SpellsRef}
 use Rattle.uvl_parser.specs.Expressions.{SpellsExpr}
 use Rattle.uvl_parser.specs.Features.{SpellsTree}
 use Rattle.uvl_parser.specs.Sections.{SpellsSection, No_section, Lines, SpellsNamespace, No_namespace, Namespace, level_part, SpellsLevelPart, Part, joined, SpellsLevel, Level, SpellsAlias, No_alias, As, SpellsImport, Import_line, SpellsFeatures, No_features, Root, SpellsRule, Rule}
-use Rattle.uvl_parser.specs.Reading.{Reader, done, bind, one, accept, choose, one_or_more, body}
-use Rattle.uvl_parser.specs.Readers.Refs.{reference}
-use Rattle.uvl_parser.specs.Readers.Expressions.{expression}
-use Rattle.uvl_parser.specs.Readers.Features.{tree}
+use Rattle.uvl_parser.specs.Reading.{Reader}
 use Rattle.uvl_parser.specs.Readers.Sections.{section, namespace, is_level_part, level_token, level, alias, import_line, features, rule}
 use Rattle.uvl_parser.proofs.TokenKinds.{word_kind, kind_word, newline_kind, indent_kind, dedent_kind}
 use Rattle.uvl_parser.proofs.Readers.{Good, Then, IsOne, IsAccepted, IsDone, Either, HasToken, then_good, spelled_so, done_good, choose_good, good_accept, opened, taken, respell}
 use Rattle.uvl_parser.proofs.Completing.{Rest, Complete, Anything, Begins, Avoids, PartsBegin, has_token, one_complete, accept_complete, next_complete, then_complete, last_complete, done_complete, spelled_complete, stops_complete, choose_complete, one_then, accept_then, part_then, part_last, done_now}
-use Rattle.uvl_parser.proofs.Firsts.{is_name, name_avoids, word_avoids, newline_avoids, dedent_avoids, begins_longer, begins_not}
+use Rattle.uvl_parser.proofs.Firsts.{is_name, newline_avoids, dedent_avoids, begins_longer, begins_not}
 use Rattle.uvl_parser.proofs.Shaped.{with_nothing, one_or_more_good, one_or_more_complete, body_good, body_complete}
 use Rattle.uvl_parser.proofs.Parts.Samples.{sample, word_good, newline_good, indent_good, dedent_good}
 use Rattle.uvl_parser.proofs.Parts.Refs.{reference_good, reference_complete}
@@ -112,7 +109,7 @@ pub namespace_complete : {d : ℕ} → Complete (λ m. namespace) SpellsNamespac
 unfolding namespace
 namespace_complete = spelled_complete namespace_parts (choose_complete (is_word word.Namespace)
     (next_complete one_complete (λ place. then_complete reference_complete (λ r. next_complete one_complete (λ newline. done_complete (Avoids (is_word word.Namespace))))
-      (λ r ys v rest t avoids. newline_opens (is_symbol symbol.Dot) refl ys v rest t)))
+    (λ r ys v rest t avoids. newline_opens (is_symbol symbol.Dot) refl ys v rest t)))
     (done_complete (Avoids (is_word word.Namespace)))
     (λ xs r rest t avoids. word_opens word.Namespace xs r rest t)
     (λ xs r rest t avoids. nothing_avoids (is_word word.Namespace) xs r rest t avoids))
@@ -226,7 +223,7 @@ import_of xs i t =
     let newline = opened name.second in
     respell SpellsImport (Import_line newline.token t.first name.first (newline_kind newline.token.kind newline.passes))
     (t.joins ∙ ap (λ z. t.front ++ z) (name.joins ∙ ap (λ z. name.front ++ z) (newline.joins ∙ ap (λ z. newline.token ∷ z) newline.second.nothing))
-      ∙ sym (append_assoc t.front name.front (newline.token ∷ [])))
+    ∙ sym (append_assoc t.front name.front (newline.token ∷ [])))
     newline.second.gives
 
 import_parts : (xs : List Token) (i : Import) → SpellsImport xs i → ImportParts xs i
@@ -250,7 +247,7 @@ pub import_complete : {d : ℕ} → Complete (λ m. import_line) SpellsImport An
 unfolding import_line
 import_complete = spelled_complete import_parts (then_complete reference_complete
     (λ path. then_complete alias_complete (λ name. next_complete one_complete (λ newline. done_complete Anything))
-      (λ name ys i rest t any. record { word = newline_opens (is_word word.As) refl ys i rest t; dot = newline_opens (is_symbol symbol.Dot) refl ys i rest t }))
+    (λ name ys i rest t any. record { word = newline_opens (is_word word.As) refl ys i rest t; dot = newline_opens (is_symbol symbol.Dot) refl ys i rest t }))
     (λ path ys i rest t any. alias_avoids (is_symbol symbol.Dot) refl refl ys i rest t))
 
 name_stays : (kind : TokenKind) → is_name kind ≡ true → is_dedent kind ≡ false
@@ -281,9 +278,9 @@ features_of xs f (inl t) =
     let indent = opened newline.second in
     let dedent = opened indent.second.second in
     respell SpellsFeatures (Root first.token newline.token indent.token dedent.token (word_kind word.Features first.token.kind first.passes)
-      (newline_kind newline.token.kind newline.passes) (indent_kind indent.token.kind indent.passes) indent.second.first (dedent_kind dedent.token.kind dedent.passes))
+    (newline_kind newline.token.kind newline.passes) (indent_kind indent.token.kind indent.passes) indent.second.first (dedent_kind dedent.token.kind dedent.passes))
     (first.joins ∙ ap (λ z. first.token ∷ z) (newline.joins ∙ ap (λ z. newline.token ∷ z) (indent.joins ∙ ap (λ z. indent.token ∷ z) (indent.second.joins
-      ∙ ap (λ z. indent.second.front ++ z) (dedent.joins ∙ ap (λ z. dedent.token ∷ z) dedent.second.nothing)))))
+    ∙ ap (λ z. indent.second.front ++ z) (dedent.joins ∙ ap (λ z. dedent.token ∷ z) dedent.second.nothing)))))
     dedent.second.gives
 features_of xs f (inr t) = respell SpellsFeatures No_features t.nothing t.gives
 
@@ -291,22 +288,22 @@ features_parts : (xs : List Token) (f : Option Feature) → SpellsFeatures xs f 
 features_parts xs f No_features = inr done_now
 features_parts xs f (Root t newline indent dedent is ends opens root closes) =
     inl (one_then t (kind_word word.Features t.kind is) (one_then newline (ap is_newline ends) (one_then indent (ap is_indent opens)
-      (part_then _ _ _ root (one_then dedent (ap is_dedent closes) done_now)))))
+    (part_then _ _ _ root (one_then dedent (ap is_dedent closes) done_now)))))
 
 pub features_good : {d n : ℕ} → Good (λ m. features) SpellsFeatures d n
 unfolding features
 features_good = spelled_so features_of (choose_good (is_word word.Features)
     (then_good (word_good word.Features) (λ place. then_good newline_good (λ newline. then_good indent_good (λ indent. then_good tree_good (λ root.
-      then_good dedent_good (λ dedent. done_good))))))
+    then_good dedent_good (λ dedent. done_good))))))
     done_good)
 
 pub features_complete : {d : ℕ} → Complete (λ m. features) SpellsFeatures (Avoids (is_word word.Features)) d
 unfolding features
 features_complete = spelled_complete features_parts (choose_complete (is_word word.Features)
     (next_complete one_complete (λ place. next_complete one_complete (λ newline. next_complete one_complete (λ indent. then_complete tree_complete
-      (λ root. next_complete one_complete (λ dedent. done_complete (Avoids (is_word word.Features))))
-      (λ root ys f rest t avoids. let dedent = opened t in
-        subst (λ (z : List Token). Avoids is_indent (z ++ rest)) (sym dedent.joins) (dedent_avoids is_indent refl (dedent.token ∷ dedent.back ++ rest) dedent.passes))))))
+    (λ root. next_complete one_complete (λ dedent. done_complete (Avoids (is_word word.Features))))
+    (λ root ys f rest t avoids. let dedent = opened t in
+    subst (λ (z : List Token). Avoids is_indent (z ++ rest)) (sym dedent.joins) (dedent_avoids is_indent refl (dedent.token ∷ dedent.back ++ rest) dedent.passes))))))
     (done_complete (Avoids (is_word word.Features)))
     (λ xs f rest t avoids. word_opens word.Features xs f rest t)
     (λ xs f rest t avoids. nothing_avoids (is_word word.Features) xs f rest t avoids))
@@ -333,7 +330,7 @@ pub rule_complete : {d : ℕ} → Complete (λ m. rule) SpellsRule Anything d
 unfolding rule
 rule_complete = spelled_complete rule_parts (then_complete expression_complete (λ e. next_complete one_complete (λ newline. done_complete Anything))
     (λ e ys v rest t any. let newline = opened t in newline_looser (ys ++ rest)
-      (subst (λ (z : List Token). Begins is_newline (z ++ rest)) (sym newline.joins) newline.passes)))
+    (subst (λ (z : List Token). Begins is_newline (z ++ rest)) (sym newline.joins) newline.passes)))
 
 expression_stays : (kind : TokenKind) → begins_expression kind ≡ true → is_dedent kind ≡ false
 expression_stays (token.Name name quoted) e = refl

@@ -1,5 +1,5 @@
 -- Attributes and their values are read exactly.
-use Rattle.std.specs.Prelude.{◌≡◌, ℕ, zero, suc, ◌<◌, ◌-◌, ◌⊎◌, Bool, true, false, not, List, [], ◌∷◌, ◌++◌, length, Err, ℤ, neg_ℤ, Option, Some, None}
+use Rattle.std.specs.Prelude.{◌≡◌, ℕ, zero, suc, ◌<◌, ◌-◌, true, false, not, List, [], ◌∷◌, ◌++◌, ℤ, neg_ℤ, Some}
 use Rattle.std.proofs.Common.{refl, sym, ap, subst, ◌∙◌, inl, inr, arith}
 use Rattle.uvl_base.specs.declared.place.Place.{Place}
 use Rattle.uvl_lexer.specs.declared.token.Token.{Token}
@@ -12,16 +12,16 @@ use Rattle.uvl_ast.specs.declared.feature.Attribute.{Attribute, roll-Attribute}
 use Rattle.uvl_ast.specs.declared.feature.AttrValue.{AttrValue}
 use Rattle.uvl_ast.specs.declared.feature.AttrValue.TheVariants as value
 use Rattle.uvl_parser.specs.Tokens.{name_of, number_of, text_of}
-use Rattle.uvl_parser.specs.Tests.{is_word, is_symbol, begins_value}
+use Rattle.uvl_parser.specs.Tests.{is_symbol, begins_value}
 use Rattle.uvl_parser.specs.Shapes.{Spelling, Separated}
 use Rattle.uvl_parser.specs.Values.{SpellsAttribute, Bare, Valued, SpellsValue, Yes, No, Number, Negative, Words, Attributes, Vector, ValueWithin, SpellsPlain}
-use Rattle.uvl_parser.specs.Reading.{Reader, done, bind, one, accept, choose, closed, separated}
+use Rattle.uvl_parser.specs.Reading.{Reader, bind, one, accept, choose}
 use Rattle.uvl_parser.specs.Readers.Values.{value_of, simple_value, attribute_with, list_with, vector_with, value_with, value_at, attribute_at, attribute}
-use Rattle.uvl_parser.proofs.TokenKinds.{word_kind, kind_word, symbol_kind, kind_symbol}
-use Rattle.uvl_parser.proofs.Readers.{Good, Then, IsOne, IsAccepted, IsDone, Either, HasToken, AtSomeDepth, then_good, spelled_so, done_good, many_good, choose_good, good_accept, good_closed, opened, taken, respell}
-use Rattle.uvl_parser.proofs.Completing.{Rest, Complete, Anything, Begins, Avoids, one_complete, accept_complete, next_complete, then_complete, last_complete, done_complete, spelled_complete, stops_complete, choose_complete, complete_deeper, complete_closed, one_then, accept_then, part_then, part_last, done_now}
+use Rattle.uvl_parser.proofs.TokenKinds.{symbol_kind, kind_symbol}
+use Rattle.uvl_parser.proofs.Readers.{Good, Then, IsOne, IsAccepted, IsDone, Either, then_good, spelled_so, done_good, choose_good, good_accept, good_closed, opened, taken, respell}
+use Rattle.uvl_parser.proofs.Completing.{Complete, Anything, Begins, Avoids, one_complete, accept_complete, next_complete, then_complete, last_complete, done_complete, spelled_complete, stops_complete, choose_complete, complete_deeper, complete_closed, one_then, accept_then, part_then, part_last, done_now}
 use Rattle.uvl_parser.proofs.Opened.{good_opened, good_deeper}
-use Rattle.uvl_parser.proofs.Firsts.{symbol_avoids, name_is, name_fails, is_name, begins_longer, begins_avoids, begins_not}
+use Rattle.uvl_parser.proofs.Firsts.{symbol_avoids, name_is, name_fails, begins_longer, begins_not}
 use Rattle.uvl_parser.proofs.Shaped.{with_nothing, separated_good, separated_complete, PartsAvoid}
 use Rattle.uvl_parser.proofs.Parts.Samples.{sample, symbol_good, name_good, number_good}
 
@@ -94,7 +94,7 @@ AttributeParts V = Then (IsAccepted name_of) (λ key. Either
 
 valued_of : (V : Spelling AttrValue) (t : Token) (name : List ℕ) (ys : List Token) (a : Attribute) → name_of t.kind ≡ Some name
     → Either (Then V (λ v. IsDone (roll-Attribute (record { key = name; value = v; place = t.place }))))
-      (IsDone (roll-Attribute (record { key = name; value = value.Yes; place = t.place }))) ys a
+    (IsDone (roll-Attribute (record { key = name; value = value.Yes; place = t.place }))) ys a
     → SpellsAttribute V (t ∷ ys) a
 valued_of V t name ys a named (inl v) =
     respell (SpellsAttribute V) (Valued t named v.first) (ap (λ z. t ∷ z) (with_nothing v.joins v.second.nothing)) v.second.gives
@@ -133,14 +133,14 @@ value_parts_of V xs v (inl t) =
     let left = opened t in
     let right = opened left.second.second in
     respell (SpellsValue V) (Attributes left.token right.token (symbol_kind symbol.LeftBrace left.token.kind left.passes) left.second.first
-      (symbol_kind symbol.RightBrace right.token.kind right.passes))
+    (symbol_kind symbol.RightBrace right.token.kind right.passes))
     (left.joins ∙ ap (λ z. left.token ∷ z) (left.second.joins ∙ ap (λ z. left.second.front ++ z) (right.joins ∙ ap (λ z. right.token ∷ z) right.second.nothing)))
     right.second.gives
 value_parts_of V xs v (inr (inl t)) =
     let left = opened t in
     let right = opened left.second.second in
     respell (SpellsValue V) (Vector left.token right.token (symbol_kind symbol.LeftBracket left.token.kind left.passes) left.second.first
-      (symbol_kind symbol.RightBracket right.token.kind right.passes))
+    (symbol_kind symbol.RightBracket right.token.kind right.passes))
     (left.joins ∙ ap (λ z. left.token ∷ z) (left.second.joins ∙ ap (λ z. left.second.front ++ z) (right.joins ∙ ap (λ z. right.token ∷ z) right.second.nothing)))
     right.second.gives
 value_parts_of V xs v (inr (inr t)) = simple_of V xs v t
@@ -149,8 +149,8 @@ value_with_good : {p : ℕ → Reader AttrValue} {V : Spelling AttrValue} {d : �
 unfolding value_with
 value_with_good {p} {V} {d} good = spelled_so (value_parts_of V)
     (good_opened (is_symbol symbol.LeftBrace) (λ m left. list_with (p m)) (λ m. choose (is_symbol symbol.LeftBracket) (bind (one (is_symbol symbol.LeftBracket)) (λ left. vector_with (p m))) simple_value)
-      (λ left. ListParts V) (Either (Then (IsOne (is_symbol symbol.LeftBracket)) (λ left. VectorParts V)) SimpleParts) d d (λ left. list_good good)
-      (good_opened (is_symbol symbol.LeftBracket) (λ m left. vector_with (p m)) (λ m. simple_value) (λ left. VectorParts V) SimpleParts d d (λ left. vector_good good) simple_good))
+    (λ left. ListParts V) (Either (Then (IsOne (is_symbol symbol.LeftBracket)) (λ left. VectorParts V)) SimpleParts) d d (λ left. list_good good)
+    (good_opened (is_symbol symbol.LeftBracket) (λ m left. vector_with (p m)) (λ m. simple_value) (λ left. VectorParts V) SimpleParts d d (λ left. vector_good good) simple_good))
 
 value_step : (m : ℕ) (us : List Token) → value_at (suc m) us ≡ value_with (value_at m) us
 unfolding value_at
@@ -251,8 +251,8 @@ module _ {p : ℕ → Reader AttrValue} {V : Spelling AttrValue} {d : ℕ} (c : 
   unfolding list_with
   list_complete = then_complete (separated_complete (is_symbol symbol.RightBrace) attribute_complete attributes_avoid
       (symbol_avoids symbol.Comma begins_value refl) (symbol_avoids symbol.RightBrace begins_value refl) (symbol_avoids symbol.RightBrace (is_symbol symbol.Comma) refl))
-    (λ attributes. next_complete one_complete (λ right. done_complete Anything))
-    (λ attributes ys w rest t any. let right = opened t in
+      (λ attributes. next_complete one_complete (λ right. done_complete Anything))
+      (λ attributes ys w rest t any. let right = opened t in
       subst (λ (z : List Token). Begins (is_symbol symbol.RightBrace) (z ++ rest)) (sym right.joins) right.passes)
 
   no_bracket : (kind : TokenKind) → begins_value kind ≡ true → is_symbol symbol.RightBracket kind ≡ false
@@ -276,8 +276,8 @@ module _ {p : ℕ → Reader AttrValue} {V : Spelling AttrValue} {d : ℕ} (c : 
   unfolding vector_with
   vector_complete = then_complete (separated_complete (is_symbol symbol.RightBracket) c values_avoid
       (λ rest begins. tt) (λ rest begins. tt) (symbol_avoids symbol.RightBracket (is_symbol symbol.Comma) refl))
-    (λ values. next_complete one_complete (λ right. done_complete Anything))
-    (λ values ys w rest t any. let right = opened t in
+      (λ values. next_complete one_complete (λ right. done_complete Anything))
+      (λ values ys w rest t any. let right = opened t in
       subst (λ (z : List Token). Begins (is_symbol symbol.RightBracket) (z ++ rest)) (sym right.joins) right.passes)
 
   value_parts : (xs : List Token) (v : AttrValue) → SpellsValue V xs v → ValueParts V xs v
@@ -307,9 +307,9 @@ module _ {p : ℕ → Reader AttrValue} {V : Spelling AttrValue} {d : ℕ} (c : 
   value_with_complete : Complete (λ m. value_with (p m)) (SpellsValue V) Anything d
   unfolding value_with
   value_with_complete = spelled_complete value_parts (choose_complete (is_symbol symbol.LeftBrace) (next_complete one_complete (λ left. list_complete))
-    (choose_complete (is_symbol symbol.LeftBracket) (next_complete one_complete (λ left. vector_complete)) simple_complete
+      (choose_complete (is_symbol symbol.LeftBracket) (next_complete one_complete (λ left. vector_complete)) simple_complete
       (λ xs v rest t any. opens_with symbol.LeftBracket xs v rest t) (λ xs v rest t any. simple_avoids symbol.LeftBracket refl xs v rest t))
-    (λ xs v rest t any. opens_with symbol.LeftBrace xs v rest t) brackets_avoid)
+      (λ xs v rest t any. opens_with symbol.LeftBrace xs v rest t) brackets_avoid)
 
 within_begins : (d : ℕ) (xs : List Token) (v : AttrValue) → ValueWithin d xs v → Begins begins_value xs
 within_begins zero xs v r = absurd r

@@ -1,5 +1,5 @@
 -- Reading what stands in braces behind a feature.
-use Rattle.std.specs.Prelude.{List, [], ◌∷◌, ◌++◌, Ok}
+use Rattle.std.specs.Prelude.{List, [], ◌++◌, Ok}
 use Rattle.uvl_lexer.specs.declared.token.Word.TheVariants as word
 use Rattle.uvl_lexer.specs.declared.token.Symbol.TheVariants as symbol
 use Rattle.uvl_ast.specs.declared.expression.Expr.{Expr}
@@ -16,7 +16,7 @@ use Rattle.uvl_parser.specs.Readers.Expressions.{expression}
 unfoldable pub rule_list : Reader (List Expr)
 rule_list =
     bind (one (is_symbol symbol.LeftBracket)) (λ left. bind (separated (is_symbol symbol.RightBracket) expression) (λ rules.
-        bind (one (is_symbol symbol.RightBracket)) (λ right. done rules)))
+    bind (one (is_symbol symbol.RightBracket)) (λ right. done rules)))
 
 unfoldable pub entry : Reader Entry
 entry =
@@ -30,7 +30,7 @@ unfoldable pub braces : Reader (List Entry)
 braces =
     choose (is_symbol symbol.LeftBrace)
     (bind (one (is_symbol symbol.LeftBrace)) (λ left. bind (separated (is_symbol symbol.RightBrace) entry) (λ entries.
-        bind (one (is_symbol symbol.RightBrace)) (λ right. done entries))))
+    bind (one (is_symbol symbol.RightBrace)) (λ right. done entries))))
     (done [])
 
 -- the attributes and the rules of the entries that were read

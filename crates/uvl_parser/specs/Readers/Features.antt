@@ -1,5 +1,5 @@
 -- Reading the tree of features.
-use Rattle.std.specs.Prelude.{ℕ, zero, suc, List, length, Err}
+use Rattle.std.specs.Prelude.{ℕ, zero, suc, length, Err}
 use Rattle.uvl_lexer.specs.declared.token.Word.TheVariants as word
 use Rattle.uvl_ast.specs.declared.feature.Feature.{Feature, roll-Feature}
 use Rattle.uvl_ast.specs.declared.feature.Group.{Group, roll-Group}
@@ -18,19 +18,19 @@ boolean = choose (is_word word.Boolean) (bind (one (is_word word.Boolean)) (λ p
 unfoldable pub group_with : Reader Feature → Reader Group
 group_with p =
     bind group_front (λ front. bind (one is_newline) (λ newline. bind (one is_indent) (λ indent.
-        bind (one_or_more stays p) (λ members. bind (one is_dedent) (λ dedent.
-            done (roll-Group (record { kind = front.0; members = members; place = front.1 })))))))
+    bind (one_or_more stays p) (λ members. bind (one is_dedent) (λ dedent.
+    done (roll-Group (record { kind = front.0; members = members; place = front.1 })))))))
 
 -- a feature, whose groups have members that are read by p
 unfoldable pub feature_with : Reader Feature → Reader Feature
 feature_with p =
     bind boolean (λ said. bind reference (λ name. bind braces (λ entries. bind (one is_newline) (λ newline.
-        bind (body (group_with p)) (λ groups. done (roll-Feature (record {
-          name = name;
-          attributes = attributes_of entries;
-          rules = rules_of entries;
-          groups = groups;
-        })))))))
+    bind (body (group_with p)) (λ groups. done (roll-Feature (record {
+      name = name;
+      attributes = attributes_of entries;
+      rules = rules_of entries;
+      groups = groups;
+    })))))))
 
 -- a feature below which there are fewer than so many levels of features, itself counted
 unfoldable pub feature_at : ℕ → Reader Feature

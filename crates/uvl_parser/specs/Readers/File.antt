@@ -8,12 +8,12 @@ use Rattle.uvl_parser.specs.Readers.Sections.{section, namespace, level, import_
 unfoldable pub file : Reader File
 file =
     bind namespace (λ name. bind (section word.Include level) (λ levels. bind (section word.Imports import_line) (λ imports.
-        bind features (λ root. bind (section word.Constraints rule) (λ rules. bind (one is_finish) (λ finish.
-            done (record {
-              namespace = name;
-              levels = levels;
-              imports = imports;
-              root = root;
-              rules = rules;
-              finish = finish;
-            })))))))
+    bind features (λ root. bind (section word.Constraints rule) (λ rules. bind (one is_finish) (λ finish.
+    done (record {
+      namespace = name;
+      levels = levels;
+      imports = imports;
+      root = root;
+      rules = rules;
+      finish = finish;
+    })))))))

@@ -34,7 +34,7 @@ range_from lo =
 unfoldable pub range : Reader GroupFront
 range =
     bind (one (is_symbol symbol.LeftBracket)) (λ place. bind (accept whole_of) (λ lo. bind (range_from lo.0) (λ kind.
-        bind (one (is_symbol symbol.RightBracket)) (λ right. done (kind, place)))))
+    bind (one (is_symbol symbol.RightBracket)) (λ right. done (kind, place)))))
 
 unfoldable pub group_front : Reader GroupFront
 group_front = choose (is_symbol symbol.LeftBracket) range (accept kind_of)

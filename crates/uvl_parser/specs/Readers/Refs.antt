@@ -12,4 +12,4 @@ dot_name = bind (one (is_symbol symbol.Dot)) (λ dot. bind (accept name_of) (λ 
 unfoldable pub reference : Reader Ref
 reference =
     bind (accept name_of) (λ first. bind (many (is_symbol symbol.Dot) dot_name) (λ names.
-        done (record { parts = first.0 ∷ names; place = first.1 })))
+    done (record { parts = first.0 ∷ names; place = first.1 })))

@@ -1,6 +1,5 @@
 -- Reading the sections of a file.
-use Rattle.std.specs.Prelude.{ℕ, List, [], ◌∷◌, Option, Some, None}
-use Rattle.uvl_lexer.specs.declared.token.TokenKind.{TokenKind}
+use Rattle.std.specs.Prelude.{ℕ, List, [], Option, Some, None}
 use Rattle.uvl_lexer.specs.declared.token.Word.{Word}
 use Rattle.uvl_lexer.specs.declared.token.Word.TheVariants as word
 use Rattle.uvl_ast.specs.declared.names.Ref.{Ref}
@@ -42,13 +41,13 @@ alias = choose (is_word word.As) (bind (one (is_word word.As)) (λ place. bind r
 unfoldable pub import_line : Reader Import
 import_line =
     bind reference (λ path. bind alias (λ name. bind (one is_newline) (λ newline.
-        done (record { path = path; alias = name; place = path.place }))))
+    done (record { path = path; alias = name; place = path.place }))))
 
 unfoldable pub features : Reader (Option Feature)
 features =
     choose (is_word word.Features)
     (bind (one (is_word word.Features)) (λ place. bind (one is_newline) (λ newline. bind (one is_indent) (λ indent.
-        bind tree (λ root. bind (one is_dedent) (λ dedent. done (Some root)))))))
+    bind tree (λ root. bind (one is_dedent) (λ dedent. done (Some root)))))))
     (done None)
 
 -- a line of `constraints`

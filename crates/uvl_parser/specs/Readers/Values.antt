@@ -1,6 +1,5 @@
 -- Reading attributes and their values.
-use Rattle.std.specs.Prelude.{ℕ, zero, suc, List, length, Err, neg_ℤ, Option, Some, None}
-use Rattle.uvl_base.specs.declared.place.Place.{Place}
+use Rattle.std.specs.Prelude.{ℕ, zero, suc, length, Err, neg_ℤ, Option, Some, None}
 use Rattle.uvl_lexer.specs.declared.token.TokenKind.{TokenKind}
 use Rattle.uvl_lexer.specs.declared.token.TokenKind.TheVariants as token
 use Rattle.uvl_lexer.specs.declared.token.Word.TheVariants as word
@@ -31,21 +30,21 @@ simple_value =
 unfoldable pub attribute_with : Reader AttrValue → Reader Attribute
 attribute_with p =
     bind (accept name_of) (λ key.
-        choose begins_value
-        (bind p (λ v. done (roll-Attribute (record { key = key.0; value = v; place = key.1 }))))
-        (done (roll-Attribute (record { key = key.0; value = value.Yes; place = key.1 }))))
+    choose begins_value
+    (bind p (λ v. done (roll-Attribute (record { key = key.0; value = v; place = key.1 }))))
+    (done (roll-Attribute (record { key = key.0; value = value.Yes; place = key.1 }))))
 
 -- the attributes in braces
 unfoldable pub list_with : Reader AttrValue → Reader AttrValue
 list_with p =
     bind (separated (is_symbol symbol.RightBrace) (attribute_with p)) (λ attributes.
-        bind (one (is_symbol symbol.RightBrace)) (λ right. done (value.List attributes)))
+    bind (one (is_symbol symbol.RightBrace)) (λ right. done (value.List attributes)))
 
 -- the values in brackets
 unfoldable pub vector_with : Reader AttrValue → Reader AttrValue
 vector_with p =
     bind (separated (is_symbol symbol.RightBracket) p) (λ values.
-        bind (one (is_symbol symbol.RightBracket)) (λ right. done (value.Vector values)))
+    bind (one (is_symbol symbol.RightBracket)) (λ right. done (value.Vector values)))
 
 -- a value, whose inner values are read by p
 unfoldable pub value_with : Reader AttrValue → Reader AttrValue

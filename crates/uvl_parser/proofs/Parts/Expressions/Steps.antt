@@ -20,12 +20,12 @@ use Rattle.uvl_parser.specs.declared.expression.opening.Opening.TheVariants as o
 use Rattle.uvl_parser.specs.Openings.{opening_of}
 use Rattle.uvl_parser.specs.Tests.{Test, is_symbol, begins, is_there}
 use Rattle.uvl_parser.specs.Shapes.{Spelling}
-use Rattle.uvl_parser.specs.Expressions.{Operators, iff_operator, implies_operator, or_operator, and_operator, comparison_operator, sum_operator, product_operator, Grouped, OperandWithin}
+use Rattle.uvl_parser.specs.Expressions.{Operators, implies_operator, or_operator, and_operator, comparison_operator, sum_operator, product_operator, Grouped, OperandWithin}
 use Rattle.uvl_parser.specs.Reading.{Read, Reader, ◌>>=◌, done, bind, one, accept, accepted, choose, repeat, many, closed, Gives}
 use Rattle.uvl_parser.specs.Readers.Refs.{reference}
 use Rattle.uvl_parser.specs.Readers.Expressions.{Operation, is_operator, operation, join, joined, grouped, parenthesized, negative, total, literal, named, primary_of, compared, opposite, operand_of, operand_within, expression_within, primary_within, operators_of, part_within, level_within, comparison_within, of_level, part_of, comparison, operand, primary, expression}
-use Rattle.uvl_parser.proofs.Readers.{Good, Outcome, HasToken, settle}
-use Rattle.uvl_parser.proofs.Parts.Expressions.Spelled.{NamedParts, negative_good, total_good, named_good, named_has_token, PrimaryWithin, grouped_good, operand_within_good, primary_within_good, iff_has, implies_has, or_has, and_has, sum_has, product_has}
+use Rattle.uvl_parser.proofs.Readers.{Good, Outcome, settle}
+use Rattle.uvl_parser.proofs.Parts.Expressions.Spelled.{NamedParts, negative_good, total_good, named_good, named_has_token, PrimaryWithin, grouped_good, operand_within_good, primary_within_good, implies_has, or_has, and_has, sum_has, product_has}
 
 -- ---- how many tokens are left
 
@@ -158,7 +158,7 @@ module _ (operators : Operators) (p : Reader Expr) where
   turn_reads left n ts o behind right after e reads =
       turn_open left n ts (operator_begins operators ts o behind e)
       ∙ ap (λ r. behind_left left (r >>= λ z. Turns n z.1 >>= λ y. Ok (z.0 ∷ y.0, y.1)))
-        (operation_reads operators p ts o behind e ∙ ap (λ r. r >>= λ y. Ok ((o.0, o.1, y.0), y.1)) reads)
+      (operation_reads operators p ts o behind e ∙ ap (λ r. r >>= λ y. Ok ((o.0, o.1, y.0), y.1)) reads)
       ∙ turn_joins left (o.0, o.1, right) (Turns n after)
 
   -- or stops
@@ -167,7 +167,7 @@ module _ (operators : Operators) (p : Reader Expr) where
   turn_stops left n ts o behind left_over e stops =
       turn_open left n ts (operator_begins operators ts o behind e)
       ∙ ap (λ r. behind_left left (r >>= λ z. Turns n z.1 >>= λ y. Ok (z.0 ∷ y.0, y.1)))
-        (operation_reads operators p ts o behind e ∙ ap (λ r. r >>= λ y. Ok ((o.0, o.1, y.0), y.1)) stops)
+      (operation_reads operators p ts o behind e ∙ ap (λ r. r >>= λ y. Ok ((o.0, o.1, y.0), y.1)) stops)
 
 -- ---- a level
 
@@ -216,7 +216,7 @@ level_goes l tokens left later end turn rest o place behind right after goes wit
       whole =
           ap (λ z. behind_left z (repeat (end - (turn + 1)) (is_operator (operators_of l)) (operation (operators_of l) (part_within l (suc (length tokens)))) after)) joins
           ∙ sym (turn_reads (operators_of l) (part_within l (suc (length tokens))) left (end - (turn + 1)) rest (o, place) behind right after is
-            (part_settled l behind (suc (length tokens)) inside ∙ reads))
+          (part_settled l behind (suc (length tokens)) inside ∙ reads))
           ∙ ap (λ z. behind_left left (repeat z (is_operator (operators_of l)) (operation (operators_of l) (part_within l (suc (length tokens)))) rest)) (sym counts)
           ∙ goes.whole;
       shorter = omega (arith, goes.shorter);
@@ -234,7 +234,7 @@ level_stops l tokens left end turn rest o place behind left_over goes within e s
     sym goes.whole
     ∙ ap (λ z. behind_left left (repeat z (is_operator (operators_of l)) (operation (operators_of l) (part_within l (suc (length tokens)))) rest)) counts
     ∙ turn_stops (operators_of l) (part_within l (suc (length tokens))) left (end - (turn + 1)) rest (o, place) behind left_over is
-      (part_settled l behind (suc (length tokens)) inside ∙ stops)
+    (part_settled l behind (suc (length tokens)) inside ∙ stops)
 
 -- ---- comparisons
 

@@ -1,5 +1,5 @@
 -- Expressions, however deep they nest, are read exactly.
-use Rattle.std.specs.Prelude.{◌≡◌, ℕ, suc, List, [], ◌∷◌, ◌++◌, length, Ok, Err}
+use Rattle.std.specs.Prelude.{◌≡◌, ℕ, suc, List, [], ◌++◌, length, Ok, Err}
 use Rattle.std.proofs.Common.{sym, ap, ◌∙◌, append-nil, arith}
 use Rattle.uvl_lexer.specs.declared.token.Token.{Token}
 use Rattle.uvl_ast.specs.declared.expression.Expr.{Expr}

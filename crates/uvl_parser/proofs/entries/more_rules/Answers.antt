@@ -13,7 +13,7 @@ pub returns-in_err-next : goal.returns-in_err-next
 returns-in_err-next c =
     let p = err_from_is_err_and c.from_residual.result c.from_residual.ensures.1 in
     rw (p.1, p.2) (fails_on _ _ _ c.in_err-next.ensures (λ left stops.
-      turn_failed _ _ _ _ _ _ _ _ c.loop-turn.invariant c.loop-turn-test.true (sym c.if-not-begins_with_symbol.ensures) stops))
+    turn_failed _ _ _ _ _ _ _ _ c.loop-turn.invariant c.loop-turn-test.true (sym c.if-not-begins_with_symbol.ensures) stops))
 
 pub loop-turn-preserved : goal.loop-turn-preserved
 loop-turn-preserved c =

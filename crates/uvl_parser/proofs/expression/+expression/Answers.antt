@@ -1,12 +1,9 @@
 -- Each function reads what its reader reads, by the steps of reading an expression.
-use Rattle.std.proofs.Common.{sym, ◌∙◌, ap, arith, rules, length, ◌<◌, ◌≤◌, ◌≡◌, ◌-◌, ◌+◌, suc}
+use Rattle.std.proofs.Common.{sym, arith}
 use Rattle.std.proofs.lemmas.Result.{err_from_is_err_and}
 use Rattle.uvl_lexer.specs.declared.token.Symbol.TheVariants as symbol
-use Rattle.uvl_parser.specs.declared.expression.level.Level.TheVariants as level
 use Rattle.uvl_parser.specs.Tests.{is_symbol}
 use Rattle.uvl_parser.specs.Expressions.{comparison_operator}
-use Rattle.uvl_parser.specs.Reading.{Gives}
-use Rattle.uvl_parser.specs.Readers.Expressions as spec
 use Rattle.uvl_parser.proofs.Turns.{fails_on}
 use Rattle.uvl_parser.proofs.Parts.Expressions.Steps.{one_takes, accept_takes, some_operator, level_begins, level_fails, level_ends, level_over, level_goes, level_stops, comparison_fails, comparison_ends, comparison_reads, comparison_stops, operand_plain, operand_fails, operand_reads, operand_stops, primary_by, primary_of_nothing, negative_shorter, total_shorter, named_shorter, leaves}
 use Rattle.uvl_parser.proofs.expression.+expression.Goals as goal
@@ -31,7 +28,7 @@ pub comparison-returns-in_err-right-clause-reads : goal.comparison-returns-in_er
 comparison-returns-in_err-right-clause-reads t c =
     let p = err_from_is_err_and c.from_residual-in_err-right.result c.from_residual-in_err-right.ensures.1 in
     rw (p.1, p.2) (fails_on _ _ _ c.in_err-right.ensures.reads (λ left stops.
-      comparison_stops _ _ _ _ _ _ left c.in_ok-left.ensures.reads c.in_ok-left.ensures.shorter c.in-Some.ensures stops))
+    comparison_stops _ _ _ _ _ _ left c.in_ok-left.ensures.reads c.in_ok-left.ensures.shorter c.in-Some.ensures stops))
 
 pub comparison-returns-clause-reads : goal.comparison-returns-clause-reads
 comparison-returns-clause-reads t c =
@@ -66,7 +63,7 @@ pub grouped-returns-in_err-right-clause-reads : goal.grouped-returns-in_err-righ
 grouped-returns-in_err-right-clause-reads t c =
     let p = err_from_is_err_and c.from_residual-in_err-right.result c.from_residual-in_err-right.ensures.1 in
     rw (p.1, p.2) (fails_on _ _ _ c.in_err-right.ensures.reads (λ left stops.
-      level_stops _ _ _ _ _ _ _ _ _ left c.loop-turn.invariant c.loop-turn-test.true c.in-Some.ensures stops))
+    level_stops _ _ _ _ _ _ _ _ _ left c.loop-turn.invariant c.loop-turn-test.true c.in-Some.ensures stops))
 
 pub grouped-loop-turn-preserved : goal.grouped-loop-turn-preserved
 grouped-loop-turn-preserved t c =
@@ -95,7 +92,7 @@ pub operand-returns-in_err-inner-clause-reads : goal.operand-returns-in_err-inne
 operand-returns-in_err-inner-clause-reads t c =
     let p = err_from_is_err_and c.from_residual-in_err-inner.result c.from_residual-in_err-inner.ensures.1 in
     rw (p.1, p.2) (fails_on _ _ _ c.in_err-inner.ensures.reads (λ left stops.
-      operand_stops _ _ _ left (sym c.if-not-begins_with_symbol.ensures) c.in_ok-place.ensures stops))
+    operand_stops _ _ _ left (sym c.if-not-begins_with_symbol.ensures) c.in_ok-place.ensures stops))
 
 pub operand-returns-clause-reads : goal.operand-returns-clause-reads
 operand-returns-clause-reads t c =

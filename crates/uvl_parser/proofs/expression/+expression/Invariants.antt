@@ -1,5 +1,5 @@
 -- Each call reads fewer tokens, or the same ones further down the levels.
-use Rattle.std.proofs.Common.{length, ℕ, ◌+◌, ◌-◌, ◌*◌}
+use Rattle.std.proofs.Common.{length, ◌+◌, ◌-◌, ◌*◌}
 use Rattle.uvl_parser.proofs.Parts.Expressions.Ranks.{part_rank}
 use Rattle.uvl_parser.proofs.Parts.Expressions.Steps.{Goes}
 use Rattle.uvl_parser.proofs.expression.+expression.Given as goal

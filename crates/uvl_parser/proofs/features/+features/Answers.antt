@@ -14,7 +14,7 @@ pub more_groups-returns-in_err-next : goal.more_groups-returns-in_err-next
 more_groups-returns-in_err-next t c =
     let p = err_from_is_err_and c.from_residual.result c.from_residual.ensures.1 in
     rw (p.1, p.2) (fails_on _ _ _ c.in_err-next.ensures (λ left stops.
-      turn_failed _ _ _ _ _ _ _ _ c.loop-turn.invariant c.loop-turn-test.true (sym c.if-not-stays.ensures) stops))
+    turn_failed _ _ _ _ _ _ _ _ c.loop-turn.invariant c.loop-turn-test.true (sym c.if-not-stays.ensures) stops))
 
 pub more_groups-loop-turn-preserved : goal.more_groups-loop-turn-preserved
 more_groups-loop-turn-preserved t c =
@@ -33,7 +33,7 @@ pub more_members-returns-in_err-next : goal.more_members-returns-in_err-next
 more_members-returns-in_err-next t c =
     let p = err_from_is_err_and c.from_residual.result c.from_residual.ensures.1 in
     rw (p.1, p.2) (fails_on _ _ _ c.in_err-next.ensures (λ left stops.
-      turn_failed _ _ _ _ _ _ _ _ c.loop-turn.invariant c.loop-turn-test.true (sym c.if-not-stays.ensures) stops))
+    turn_failed _ _ _ _ _ _ _ _ c.loop-turn.invariant c.loop-turn-test.true (sym c.if-not-stays.ensures) stops))
 
 pub more_members-loop-turn-preserved : goal.more_members-loop-turn-preserved
 more_members-loop-turn-preserved t c =

@@ -1,6 +1,4 @@
 -- What reading all tokens tells of them.
-use Rattle.std.specs.Prelude.{length}
-use Rattle.std.proofs.Common.{arith}
 use Rattle.uvl_parser.proofs.Parsed.{all_read, all_stuck}
 use Rattle.uvl_parser.proofs.parser.read_unnamed.Goals as goal
 

@@ -1,8 +1,7 @@
 -- What reading the tokens up to and with a named one tells of them.
-use Rattle.std.specs.Prelude.{take, Err, ◌+◌}
-use Rattle.std.proofs.Common.{◌≡◌, sym, ap, ◌∙◌, subst, arith}
-use Rattle.uvl_parser.specs.Parsing.{IsRefusedAt, IsFaultAt, OnFault}
-use Rattle.uvl_parser.specs.Readers.File.{file}
+use Rattle.std.specs.Prelude.{Err}
+use Rattle.std.proofs.Common.{sym, ap, ◌∙◌, subst, arith}
+use Rattle.uvl_parser.specs.Parsing.{IsFaultAt}
 use Rattle.uvl_parser.proofs.Parsed.{front_read, all_taken, last_stuck, front_stuck}
 use Rattle.uvl_parser.proofs.parser.refusal.Goals as goal
 use Rattle.uvl_parser.proofs.parser.refusal.Goals.{in-Ok, in-Err-Stuck+then-left-eq0, in-Err-Stuck+else-left-eq0+then-left-eq1, in-Err-Stuck+else-left-eq0+else-left-eq1, in-Err-OutOfMemory}
@@ -40,9 +39,9 @@ refusal_at-requires-else-left-eq1 c =
 pub returns : goal.returns
 returns c =
     elim c.match-file.branch [
-      in-Ok w ↦ rw w.result-is w.refusal_at.ensures
-    | in-Err-Stuck+then-left-eq0 w ↦ rw w.result-is w.refusal_at-then-left-eq0.ensures
-    | in-Err-Stuck+else-left-eq0+then-left-eq1 w ↦ rw w.result-is w.refusal_at-then-left-eq1.ensures
-    | in-Err-Stuck+else-left-eq0+else-left-eq1 w ↦ rw w.result-is w.refusal_at-else-left-eq1.ensures
-    | in-Err-OutOfMemory w ↦ rw w.result-is tt
+      | in-Ok w ↦ rw w.result-is w.refusal_at.ensures
+      | in-Err-Stuck+then-left-eq0 w ↦ rw w.result-is w.refusal_at-then-left-eq0.ensures
+      | in-Err-Stuck+else-left-eq0+then-left-eq1 w ↦ rw w.result-is w.refusal_at-then-left-eq1.ensures
+      | in-Err-Stuck+else-left-eq0+else-left-eq1 w ↦ rw w.result-is w.refusal_at-else-left-eq1.ensures
+      | in-Err-OutOfMemory w ↦ rw w.result-is tt
     ]

@@ -16,7 +16,7 @@ pub more_attributes-returns-in_err-next : goal.more_attributes-returns-in_err-ne
 more_attributes-returns-in_err-next t c =
     let p = err_from_is_err_and c.from_residual.result c.from_residual.ensures.1 in
     rw (p.1, p.2) (fails_on _ _ _ c.in_err-next.ensures (λ left stops.
-      turn_failed _ _ _ _ _ _ _ _ c.loop-turn.invariant c.loop-turn-test.true (sym c.if-not-begins_with_symbol.ensures) stops))
+    turn_failed _ _ _ _ _ _ _ _ c.loop-turn.invariant c.loop-turn-test.true (sym c.if-not-begins_with_symbol.ensures) stops))
 
 pub more_attributes-loop-turn-preserved : goal.more_attributes-loop-turn-preserved
 more_attributes-loop-turn-preserved t c =
@@ -35,7 +35,7 @@ pub more_values-returns-in_err-next : goal.more_values-returns-in_err-next
 more_values-returns-in_err-next t c =
     let p = err_from_is_err_and c.from_residual.result c.from_residual.ensures.1 in
     rw (p.1, p.2) (fails_on _ _ _ c.in_err-next.ensures (λ left stops.
-      turn_failed _ _ _ _ _ _ _ _ c.loop-turn.invariant c.loop-turn-test.true (sym c.if-not-begins_with_symbol.ensures) stops))
+    turn_failed _ _ _ _ _ _ _ _ c.loop-turn.invariant c.loop-turn-test.true (sym c.if-not-begins_with_symbol.ensures) stops))
 
 pub more_values-loop-turn-preserved : goal.more_values-loop-turn-preserved
 more_values-loop-turn-preserved t c =
