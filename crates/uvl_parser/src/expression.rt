@@ -39,13 +39,14 @@ pub(crate) fn expression(alloc: Global, tokens: &[Token]) -> Result<(Expr, &[Tok
     ensures reads { Gives (λ r. (r.0, r.1.now)) result (spec.expression tokens.now) }
     ensures shorter { IfOk result (λ r. length r.1.now < length tokens.now) }
 {
-    grouped(alloc, Level::Iff, tokens)
+    let (whole, rest) = grouped(alloc, Level::Iff, tokens)?;
+    Ok((whole.into_inner(), rest))
 }
 
 /// Reads operands of a level with its operators between them. They group to the left, and each
 /// operator stands where its symbol stands.
 #[cycle(expression)]
-fn grouped(alloc: Global, level: Level, tokens: &[Token]) -> Result<(Expr, &[Token]), Stop>
+fn grouped(alloc: Global, level: Level, tokens: &[Token]) -> Result<(Boxed<Expr>, &[Token]), Stop>
     ensures reads { Gives (λ r. (r.0, r.1.now)) result (spec.of_level level tokens.now) }
     ensures shorter { IfOk result (λ r. length r.1.now < length tokens.now) }
 {
@@ -64,7 +65,7 @@ fn grouped(alloc: Global, level: Level, tokens: &[Token]) -> Result<(Expr, &[Tok
 /// Reads what stands between the operators of a level.
 #[cycle(expression)]
 #[tactic(auto, unfolding(crate::specs::Readers::Expressions::part_of, crate::specs::Readers::Expressions::of_level, crate::specs::Readers::Expressions::operand, crate::specs::Readers::Expressions::primary, crate::specs::Reading::closed))]
-fn part(alloc: Global, level: Level, tokens: &[Token]) -> Result<(Expr, &[Token]), Stop>
+fn part(alloc: Global, level: Level, tokens: &[Token]) -> Result<(Boxed<Expr>, &[Token]), Stop>
     ensures reads { Gives (λ r. (r.0, r.1.now)) result (spec.part_of level tokens.now) }
     ensures shorter { IfOk result (λ r. length r.1.now < length tokens.now) }
 {
@@ -80,7 +81,7 @@ fn part(alloc: Global, level: Level, tokens: &[Token]) -> Result<(Expr, &[Token]
 
 /// Reads an operand of `&`: a comparison, or `!` and such an operand.
 #[cycle(expression)]
-fn operand(alloc: Global, tokens: &[Token]) -> Result<(Expr, &[Token]), Stop>
+fn operand(alloc: Global, tokens: &[Token]) -> Result<(Boxed<Expr>, &[Token]), Stop>
     ensures reads { Gives (λ r. (r.0, r.1.now)) result (spec.operand tokens.now) }
     ensures shorter { IfOk result (λ r. length r.1.now < length tokens.now) }
 {
@@ -89,12 +90,12 @@ fn operand(alloc: Global, tokens: &[Token]) -> Result<(Expr, &[Token]), Stop>
     }
     let (place, rest) = symbol(tokens, Symbol::Bang)?;
     let (inner, rest) = operand(alloc, rest)?;
-    Ok((Expr::Not(Boxed::new(alloc, inner)?, place), rest))
+    Ok((Boxed::new(alloc, Expr::Not(inner, place))?, rest))
 }
 
 /// Reads a sum, or two with a comparison between them. Another comparison does not follow.
 #[cycle(expression)]
-fn comparison(alloc: Global, tokens: &[Token]) -> Result<(Expr, &[Token]), Stop>
+fn comparison(alloc: Global, tokens: &[Token]) -> Result<(Boxed<Expr>, &[Token]), Stop>
     ensures reads { Gives (λ r. (r.0, r.1.now)) result (spec.comparison tokens.now) }
     ensures shorter { IfOk result (λ r. length r.1.now < length tokens.now) }
 {
@@ -109,7 +110,7 @@ fn comparison(alloc: Global, tokens: &[Token]) -> Result<(Expr, &[Token]), Stop>
 /// Reads an operand of `*`: a number, a sum of an attribute, a reference, or an expression in
 /// parentheses, which make no node.
 #[cycle(expression)]
-fn primary(alloc: Global, tokens: &[Token]) -> Result<(Expr, &[Token]), Stop>
+fn primary(alloc: Global, tokens: &[Token]) -> Result<(Boxed<Expr>, &[Token]), Stop>
     ensures reads { Gives (λ r. (r.0, r.1.now)) result (spec.primary tokens.now) }
     ensures shorter { IfOk result (λ r. length r.1.now < length tokens.now) }
 {
@@ -118,9 +119,12 @@ fn primary(alloc: Global, tokens: &[Token]) -> Result<(Expr, &[Token]), Stop>
     };
     match opening_of(&first.kind) {
         Opening::Parenthesis => parenthesized(alloc, rest),
-        Opening::Minus => negative(first.place, rest),
-        Opening::Sum => total(first.place, rest),
-        Opening::Number(value) => Ok((Expr::Number(value, first.place), rest)),
+        Opening::Minus => negative(alloc, first.place, rest),
+        Opening::Sum => total(alloc, first.place, rest),
+        Opening::Number(value) => {
+            let literal = Boxed::new(alloc, Expr::Number(value, first.place))?;
+            Ok((literal, rest))
+        }
         Opening::Other => named(alloc, tokens),
     }
 }
@@ -128,7 +132,7 @@ fn primary(alloc: Global, tokens: &[Token]) -> Result<(Expr, &[Token]), Stop>
 /// Reads what is behind a left parenthesis.
 #[cycle(expression)]
 #[tactic(auto, unfolding(crate::specs::Readers::Expressions::parenthesized, crate::specs::Readers::Expressions::expression, crate::specs::Readers::Expressions::of_level, crate::specs::Reading::closed, crate::specs::Reading::bind, crate::specs::Reading::done))]
-fn parenthesized(alloc: Global, tokens: &[Token]) -> Result<(Expr, &[Token]), Stop>
+fn parenthesized(alloc: Global, tokens: &[Token]) -> Result<(Boxed<Expr>, &[Token]), Stop>
     ensures reads { Gives (λ r. (r.0, r.1.now)) result (spec.parenthesized spec.expression tokens.now) }
     ensures shorter { IfOk result (λ r. length r.1.now < length tokens.now) }
 {

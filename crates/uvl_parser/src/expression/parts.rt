@@ -16,44 +16,53 @@ use uvl_lexer::{Symbol, Token};
 
 /// Reads the number behind a minus.
 #[tactic(auto, unfolding(crate::specs::Readers::Expressions::negative, crate::specs::Reading::bind, crate::specs::Reading::done))]
-pub(crate) fn negative(minus: Place, tokens: &[Token]) -> Result<(Expr, &[Token]), Stop>
+pub(crate) fn negative(
+    alloc: Global,
+    minus: Place,
+    tokens: &[Token],
+) -> Result<(Boxed<Expr>, &[Token]), Stop>
     ensures { Gives (λ r. (r.0, r.1.now)) result (negative minus tokens.now) }
 {
     let (value, _, rest) = number(tokens)?;
-    Ok((Expr::Number(negated(*value), minus), rest))
+    Ok((
+        Boxed::new(alloc, Expr::Number(negated(*value), minus))?,
+        rest,
+    ))
 }
 
 /// Reads what is behind the word `sum`: the name of an attribute in parentheses.
 #[tactic(auto, unfolding(crate::specs::Readers::Expressions::total, crate::specs::Reading::bind, crate::specs::Reading::done))]
-pub(crate) fn total(word: Place, tokens: &[Token]) -> Result<(Expr, &[Token]), Stop>
+pub(crate) fn total(
+    alloc: Global,
+    word: Place,
+    tokens: &[Token],
+) -> Result<(Boxed<Expr>, &[Token]), Stop>
     ensures { Gives (λ r. (r.0, r.1.now)) result (total word tokens.now) }
 {
     let (_, rest) = symbol(tokens, Symbol::LeftParen)?;
     let (key, _, rest) = name(rest)?;
     let (_, rest) = symbol(rest, Symbol::RightParen)?;
-    Ok((Expr::Sum(key.clone()?, word), rest))
+    Ok((Boxed::new(alloc, Expr::Sum(key.clone()?, word))?, rest))
 }
 
 /// Reads the name of a feature or of an attribute.
 #[tactic(auto, unfolding(crate::specs::Readers::Expressions::named, crate::specs::Reading::bind, crate::specs::Reading::done))]
-pub(crate) fn named(alloc: Global, tokens: &[Token]) -> Result<(Expr, &[Token]), Stop>
+pub(crate) fn named(alloc: Global, tokens: &[Token]) -> Result<(Boxed<Expr>, &[Token]), Stop>
     ensures { Gives (λ r. (r.0, r.1.now)) result (named tokens.now) }
 {
     let (name, rest) = reference(alloc, tokens)?;
-    Ok((Expr::Name(name), rest))
+    Ok((Boxed::new(alloc, Expr::Name(name))?, rest))
 }
 
 /// The operator of two operands that stands at a place.
 pub(crate) fn binary(
     alloc: Global,
     operator: BinOp,
-    left: Expr,
-    right: Expr,
+    left: Boxed<Expr>,
+    right: Boxed<Expr>,
     place: Place,
-) -> Result<Expr, AllocError>
+) -> Result<Boxed<Expr>, AllocError>
     ensures { IfOk result (λ e. e ≡ expr.Binary operator left right place) }
 {
-    let left = Boxed::new(alloc, left)?;
-    let right = Boxed::new(alloc, right)?;
-    Ok(Expr::Binary(operator, left, right, place))
+    Boxed::new(alloc, Expr::Binary(operator, left, right, place))
 }

@@ -3,7 +3,7 @@ use Rattle.std.specs.Prelude.{◌≡◌, ℕ, zero, suc, ◌+◌, ◌-◌, ◌<�
 use Rattle.std.specs.Borrow.{Bor}
 use Rattle.uvl_parser.specs.declared.reading.Stop.{Stop}
 use Rattle.std.specs.Result.{result_ok}
-use Rattle.std.proofs.Common.{refl, sym, ap, subst, ◌∙◌, arith, length-append}
+use Rattle.std.proofs.Common.{ℤ, refl, sym, ap, subst, ◌∙◌, arith, length-append}
 use Rattle.uvl_base.specs.declared.place.Place.{Place}
 use Rattle.uvl_lexer.specs.declared.token.Token.{Token}
 use Rattle.uvl_lexer.specs.declared.token.TokenKind.{TokenKind}
@@ -336,9 +336,9 @@ operand_more tokens place rest e f =
 
 pub operand_reads : (tokens : List Token) (place : Place) (rest : List Token) (inner : Expr) (after : List Token)
     → begins (is_symbol symbol.Bang) tokens ≡ true → one (is_symbol symbol.Bang) tokens ≡ Ok (place, rest) → operand rest ≡ Ok (inner, after)
-    → (boxed : Expr) → boxed ≡ inner → operand tokens ≡ Ok (expr.Not boxed place, after)
-operand_reads tokens place rest inner after e f g boxed same =
-    operand_more tokens place rest e f ∙ ap (λ r. r >>= λ z. Ok (expr.Not z.0 place, z.1)) g ∙ ap (λ z. Ok (expr.Not z place, after)) (sym same)
+    → (whole : Expr) → whole ≡ expr.Not inner place → operand tokens ≡ Ok (whole, after)
+operand_reads tokens place rest inner after e f g whole negates =
+    operand_more tokens place rest e f ∙ ap (λ r. r >>= λ z. Ok (expr.Not z.0 place, z.1)) g ∙ ap (λ z. Ok (z, after)) (sym negates)
 
 pub operand_stops : (tokens : List Token) (place : Place) (rest : List Token) (left : ℕ)
     → begins (is_symbol symbol.Bang) tokens ≡ true → one (is_symbol symbol.Bang) tokens ≡ Ok (place, rest) → operand rest ≡ Err left
@@ -381,6 +381,11 @@ primary_opens t rest = primary_opened (expression_within (suc (length rest))) t.
 pub primary_by : (tokens : List Token) (t : Token) (rest : List Token) (opening : Opening) → tokens ≡ t ∷ rest → opening ≡ opening_of t.kind
     → primary tokens ≡ Opened opening expression t rest
 primary_by tokens t rest opening e f = ap primary e ∙ primary_opens t rest ∙ ap (λ o. Opened o expression t rest) (sym f)
+
+pub primary_is_literal : (tokens : List Token) (t : Token) (rest : List Token) (value : ℤ) → tokens ≡ t ∷ rest
+    → opens.Number value ≡ opening_of t.kind → (whole : Expr) → whole ≡ expr.Number value t.place → primary tokens ≡ Ok (whole, rest)
+primary_is_literal tokens t rest value e f whole same =
+    primary_by tokens t rest (opens.Number value) e f ∙ ap (λ z. Ok (z, rest)) (sym same)
 
 pub primary_of_nothing : (tokens : List Token) → length tokens ≡ 0 → primary tokens ≡ Err 0
 unfolding primary closed primary_within primary_of choose named bind reference accept

@@ -5,7 +5,7 @@ use Rattle.uvl_lexer.specs.declared.token.Symbol.TheVariants as symbol
 use Rattle.uvl_parser.specs.Tests.{is_symbol}
 use Rattle.uvl_parser.specs.Expressions.{comparison_operator}
 use Rattle.uvl_parser.proofs.Turns.{fails_on}
-use Rattle.uvl_parser.proofs.Parts.Expressions.Steps.{one_takes, accept_takes, some_operator, level_begins, level_fails, level_ends, level_over, level_goes, level_stops, comparison_fails, comparison_ends, comparison_reads, comparison_stops, operand_plain, operand_fails, operand_reads, operand_stops, primary_by, primary_of_nothing, negative_shorter, total_shorter, named_shorter, leaves}
+use Rattle.uvl_parser.proofs.Parts.Expressions.Steps.{one_takes, accept_takes, some_operator, level_begins, level_fails, level_ends, level_over, level_goes, level_stops, comparison_fails, comparison_ends, comparison_reads, comparison_stops, operand_plain, operand_fails, operand_reads, operand_stops, primary_by, primary_is_literal, primary_of_nothing, negative_shorter, total_shorter, named_shorter, leaves}
 use Rattle.uvl_parser.proofs.expression.+expression.Goals as goal
 
 -- ---- comparison
@@ -133,8 +133,9 @@ pub primary-returns-in-Sum-clause-shorter : goal.primary-returns-in-Sum-clause-s
 primary-returns-in-Sum-clause-shorter t c =
     leaves _ _ _ c.total.ensures (λ v rest e. let fewer = total_shorter _ _ v rest e in omega (arith, c.in-Some.ensures.cases.1))
 
-pub primary-returns-in-Number-clause-reads : goal.primary-returns-in-Number-clause-reads
-primary-returns-in-Number-clause-reads t c = primary_by _ _ _ _ c.in-Some.ensures.cases.0 c.in-Number.ensures
+pub primary-returns-in_ok-literal-in-Number-clause-reads : goal.primary-returns-in_ok-literal-in-Number-clause-reads
+primary-returns-in_ok-literal-in-Number-clause-reads t c =
+    primary_is_literal _ _ _ _ c.in-Some.ensures.cases.0 c.in-Number.ensures _ c.in_ok-literal-in-Number.ensures
 
 pub primary-returns-in-Other-clause-reads : goal.primary-returns-in-Other-clause-reads
 primary-returns-in-Other-clause-reads t c =
