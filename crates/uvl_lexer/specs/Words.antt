@@ -31,3 +31,29 @@ word_of text =
     else if bytes_eq text (codes "Integer") then Some word.Integer
     else if bytes_eq text (codes "Real") then Some word.Real
     else None
+
+-- the characters of a reserved word
+abbrev pub characters_of_word : Word → List ℕ
+characters_of_word word.Namespace = codes "namespace"
+characters_of_word word.Include = codes "include"
+characters_of_word word.Imports = codes "imports"
+characters_of_word word.As = codes "as"
+characters_of_word word.Features = codes "features"
+characters_of_word word.Constraints = codes "constraints"
+characters_of_word word.Constraint = codes "constraint"
+characters_of_word word.Mandatory = codes "mandatory"
+characters_of_word word.Optional = codes "optional"
+characters_of_word word.Alternative = codes "alternative"
+characters_of_word word.Or = codes "or"
+characters_of_word word.Cardinality = codes "cardinality"
+characters_of_word word.Sum = codes "sum"
+characters_of_word word.Avg = codes "avg"
+characters_of_word word.Len = codes "len"
+characters_of_word word.Floor = codes "floor"
+characters_of_word word.Ceil = codes "ceil"
+characters_of_word word.True = codes "true"
+characters_of_word word.False = codes "false"
+characters_of_word word.Boolean = codes "Boolean"
+characters_of_word word.String = codes "String"
+characters_of_word word.Integer = codes "Integer"
+characters_of_word word.Real = codes "Real"

@@ -35,3 +35,40 @@ pub(crate) fn word_of(text: &str) -> Option<Word>
         _ => None,
     }
 }
+
+impl Word {
+    ghost use Rattle.std.specs.Prelude.{◌≡◌, Some};
+    ghost use Rattle.uvl_lexer.specs.Words.{characters_of_word, word_of};
+
+    /// The word as it is spelled.
+    pub fn text(self) -> &'static str
+        ensures spelling { result.now ≡ characters_of_word self }
+        ensures read { word_of result.now ≡ Some self }
+    {
+        match self {
+            Word::Namespace => "namespace",
+            Word::Include => "include",
+            Word::Imports => "imports",
+            Word::As => "as",
+            Word::Features => "features",
+            Word::Constraints => "constraints",
+            Word::Constraint => "constraint",
+            Word::Mandatory => "mandatory",
+            Word::Optional => "optional",
+            Word::Alternative => "alternative",
+            Word::Or => "or",
+            Word::Cardinality => "cardinality",
+            Word::Sum => "sum",
+            Word::Avg => "avg",
+            Word::Len => "len",
+            Word::Floor => "floor",
+            Word::Ceil => "ceil",
+            Word::True => "true",
+            Word::False => "false",
+            Word::Boolean => "Boolean",
+            Word::String => "String",
+            Word::Integer => "Integer",
+            Word::Real => "Real",
+        }
+    }
+}

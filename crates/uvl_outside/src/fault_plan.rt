@@ -1,4 +1,4 @@
-// Which calls of a stand-in are to fail.
+//! Which calls of a stand-in are to fail.
 ghost use Rattle.std.specs.Prelude.{◌≡◌, IfOk};
 ghost use Rattle.uvl_outside.specs.Faults.{Counts};
 ghost use Rattle.uvl_outside.specs.Plan.{Plan, fresh_plan, fails_next, after_call};
@@ -7,8 +7,8 @@ use crate::files::OutOfMemory;
 use std::alloc::Global;
 use std::marker::Model;
 
-// The numbers, from 1, of the calls that are to fail, with counts of the calls and of the faults,
-// which stop at the end of 64 bits.
+/// The numbers, from 1, of the calls that are to fail, with counts of the calls and of the faults,
+/// which stop at the end of 64 bits.
 #[derive(Debug, Drop)]
 pub struct FaultPlan {
     fail: Vec<u64>,
@@ -37,7 +37,7 @@ impl FaultPlan {
         })
     }
 
-    // Counts one more call, and answers whether it is to fail.
+    /// Counts one more call, and answers whether it is to fail.
     pub fn fails(&mut self) -> bool
         ensures planned { result ≡ fails_next self.old }
         ensures after { self.new ≡ after_call self.old }

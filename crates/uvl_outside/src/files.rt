@@ -1,4 +1,4 @@
-// Files that are read whole, by path, up to a limit.
+//! Files that are read whole, by path, up to a limit.
 ghost use Rattle.std.specs.Prelude.{◌≡◌, ℕ, List, [], Option};
 ghost use Rattle.uvl_outside.specs.Faults.{Counts};
 ghost use Rattle.uvl_outside.specs.Files.{Fetches, fetch_failed};

@@ -1,4 +1,4 @@
-// The files of the host.
+//! The files of the host.
 ghost use Rattle.std.specs.Prelude.{◌≡◌, None, [], Option};
 ghost use Rattle.std.specs.IoError.{error_kind};
 ghost use Rattle.uvl_outside.specs.Absence.{is_absence};
@@ -46,7 +46,7 @@ impl<R: rt::Files> Files for HostFiles<R> {
     }
 }
 
-// Reads the file at the path into an empty buffer.
+/// Reads the file at the path into an empty buffer.
 fn read_file<R: rt::Files>(
     runtime: &R,
     path: &str,
@@ -63,8 +63,8 @@ fn read_file<R: rt::Files>(
     }
 }
 
-// Whether a file couldn't be opened since there is none. So it is at a path that leads through a
-// file too, and at one with a NUL or that is too long.
+/// Whether a file couldn't be opened since there is none. So it is at a path that leads through a
+/// file too, and at one with a NUL or that is too long.
 fn is_absence(error: &io::Error) -> bool
     ensures { result ≡ is_absence (error_kind error.now) }
 {

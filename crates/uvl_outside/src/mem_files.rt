@@ -1,4 +1,4 @@
-// Files in memory, with planned faults.
+//! Files in memory, with planned faults.
 ghost use Rattle.std.specs.Prelude.{◌≡◌, ◌≢◌, ℕ, List, [], Some, None, IfOk, OnOk, OnErr};
 ghost use Rattle.uvl_outside.specs.Faults.{Counts};
 ghost use Rattle.uvl_outside.specs.Files.{Fetches, fetch_failed};

@@ -1,4 +1,4 @@
-// A sink that keeps what was written in memory, with planned faults.
+//! A sink that keeps what was written in memory, with planned faults.
 ghost use Rattle.std.specs.Prelude.{◌≡◌, [], Some, IfOk, OnErr};
 ghost use Rattle.uvl_outside.specs.Faults.{Counts};
 ghost use Rattle.uvl_outside.specs.MemSink.{SinkState};

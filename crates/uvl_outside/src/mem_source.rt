@@ -1,4 +1,4 @@
-// A source over bytes in memory, with planned sizes and faults.
+//! A source over bytes in memory, with planned sizes and faults.
 ghost use Rattle.std.specs.Prelude.{◌≡◌, ◌<◌, ◌≤◌, length, drop, min, Some, IfOk, is_ok, is_err, if◌then◌else◌, vec_len};
 ghost use Rattle.uvl_outside.specs.Faults.{Counts};
 ghost use Rattle.uvl_outside.specs.MemSource.{SourceState};
@@ -56,7 +56,7 @@ impl MemSource {
         })
     }
 
-    // The most bytes that this call gives into a buffer of this length.
+    /// The most bytes that this call gives into a buffer of this length.
     fn next_size(&mut self, room: usize) -> usize
         ensures most { result ≡ most_given self.old.sizes room }
         ensures used { self.new ≡ record self.old { sizes = drop 1 self.old.sizes } }

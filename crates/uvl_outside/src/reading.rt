@@ -1,4 +1,4 @@
-// Reading from a reader of the standard library, where an interrupted call is tried again.
+//! Reading from a reader of the standard library, where an interrupted call is tried again.
 ghost use Rattle.std.specs.Prelude.{◌≡◌, ◌≢◌, ◌↔◌, ◌+◌, ◌<◌, ◌≤◌, [], length, IfSome, IfOk, IfErr, OnOk, IsTrue};
 ghost use Rattle.std.specs.Io.KnownBytes.{Consumes};
 ghost use Rattle.std.specs.IoError.{error_kind};
@@ -9,17 +9,17 @@ use crate::files::{FetchFault, Fetched};
 use std::io;
 use std::io::{ErrorKind, Read};
 
-// How many bytes one call asks for.
+/// How many bytes one call asks for.
 const PIECE: usize = 65536;
 
-// Whether a call was interrupted by a signal, and is to be tried again.
+/// Whether a call was interrupted by a signal, and is to be tried again.
 pub fn is_interrupted(error: &io::Error) -> bool
     ensures { IsTrue result ↔ (error_kind error.now ≡ ErrorKind.Interrupted) }
 {
     error.kind() == ErrorKind::Interrupted
 }
 
-// One read into a buffer that isn't empty.
+/// One read into a buffer that isn't empty.
 pub fn read_retrying<R: Read>(reader: &mut R, into: &mut [u8]) -> io::Result<usize>
     requires { 0 < length into.old }
     ensures within { IfOk result (λ count. count ≤ length into.new) }
@@ -39,7 +39,7 @@ pub fn read_retrying<R: Read>(reader: &mut R, into: &mut [u8]) -> io::Result<usi
     Err(io::Error::from(ErrorKind::TimedOut))
 }
 
-// Reads to the end, or one byte past the limit where there are more, into an empty buffer.
+/// Reads to the end, or one byte past the limit where there are more, into an empty buffer.
 fn read_past<R: Read>(reader: &mut R, limit: usize, into: &mut Vec<u8>) -> Result<(), FetchFault>
     requires { into.old.items ≡ [] }
     ensures within { length into.new.items ≤ limit + 1 }
@@ -61,8 +61,8 @@ fn read_past<R: Read>(reader: &mut R, limit: usize, into: &mut Vec<u8>) -> Resul
     Ok(())
 }
 
-// Reads all that a reader has left, which is to be at most `limit` bytes, into an empty buffer. It
-// reads at most one byte past the limit.
+/// Reads all that a reader has left, which is to be at most `limit` bytes, into an empty buffer. It
+/// reads at most one byte past the limit.
 pub fn read_whole<R: Read>(
     reader: &mut R,
     limit: usize,

@@ -1,4 +1,4 @@
-// A sink for bytes, which takes them piece by piece.
+//! A sink for bytes, which takes them piece by piece.
 ghost use Rattle.std.specs.Prelude.{◌≡◌, ℕ, List, Option};
 ghost use Rattle.uvl_outside.specs.Faults.{Counts};
 ghost use Rattle.uvl_outside.specs.Sink.{Puts, put_failed};

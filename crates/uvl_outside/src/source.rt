@@ -1,4 +1,4 @@
-// A source of bytes, which gives them in pieces.
+//! A source of bytes, which gives them in pieces.
 ghost use Rattle.std.specs.Prelude.{ℕ, ◌<◌, ◌≤◌, List, length, Option, IfOk, is_err};
 ghost use Rattle.uvl_outside.specs.Faults.{Counts};
 ghost use Rattle.uvl_outside.specs.Source.{Takes};

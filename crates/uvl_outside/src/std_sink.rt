@@ -1,4 +1,4 @@
-// A sink over a writer of the standard library, as standard output.
+//! A sink over a writer of the standard library, as standard output.
 ghost use Rattle.std.specs.Prelude.{◌≡◌};
 
 use crate::sink::{PutFault, Sink};

@@ -1,4 +1,4 @@
-// A source over a reader of the standard library, as standard input.
+//! A source over a reader of the standard library, as standard input.
 ghost use Rattle.std.specs.Prelude.{◌≡◌};
 
 use crate::reading::read_retrying;

@@ -1,4 +1,4 @@
-// Files in memory that never fail.
+//! Files in memory that never fail.
 ghost use Rattle.std.specs.Prelude.{◌≡◌, ◌≢◌, ℕ, List, Some, None, OnOk, OnErr};
 ghost use Rattle.uvl_outside.specs.SureFiles.{contents};
 

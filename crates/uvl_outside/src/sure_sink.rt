@@ -1,4 +1,4 @@
-// A sink that keeps what was written in memory and never fails.
+//! A sink that keeps what was written in memory and never fails.
 ghost use Rattle.std.specs.Prelude.{◌≡◌, ℕ, List, [], ◌++◌, Some, Err, IsOk, OnErr, IfErr};
 ghost use Rattle.uvl_outside.specs.Faults.{Counts};
 ghost use Rattle.uvl_outside.specs.Sink.{Puts, put_failed};

@@ -1,4 +1,4 @@
-// A source over bytes in memory that never fails.
+//! A source over bytes in memory that never fails.
 ghost use Rattle.std.specs.Prelude.{◌≡◌, ◌<◌, ◌≤◌, ℕ, List, length, ◌++◌, take, drop, min, Some, Ok, IfOk, is_err, vec_len};
 ghost use Rattle.uvl_outside.specs.Faults.{Counts};
 ghost use Rattle.uvl_outside.specs.Source.{Takes, TakesFront};
@@ -23,7 +23,7 @@ impl Model for SureSource {
     ghost invariant = { λ source. source.taken ≤ vec_len source.bytes };
 }
 
-// Copies as many bytes as both have, but at most `most`, and answers how many.
+/// Copies as many bytes as both have, but at most `most`, and answers how many.
 fn copy_front(from: &[u8], into: &mut [u8], most: usize) -> usize
     ensures count { result ≡ min (min most (length into.old)) (length from.now) }
     ensures copied { into.new ≡ take result from.now ++ drop result into.old }
@@ -44,14 +44,14 @@ impl SureSource {
         })
     }
 
-    // The bytes that are left.
+    /// The bytes that are left.
     fn rest(&self) -> &[u8]
         ensures left { result.now ≡ self.now }
     {
         &self.bytes[self.taken..]
     }
 
-    // Moves as many bytes as fit, but at most `most`.
+    /// Moves as many bytes as fit, but at most `most`.
     pub(crate) fn give(&mut self, into: &mut [u8], most: usize) -> usize
         requires room { 0 < length into.old }
         requires some { 0 < most }

@@ -1,4 +1,4 @@
-// The objects in memory against their plans, and the thin edges over real files and streams.
+//! The objects in memory against their plans, and the thin edges over real files and streams.
 use super::*;
 use std::alloc::Global;
 use std::fs::OpenOptions;
@@ -7,7 +7,7 @@ use std::process::Abort;
 use std::test::Fail;
 use std::{fs, io};
 
-// Takes pieces into a buffer of four bytes, and compares them.
+/// Takes pieces into a buffer of four bytes, and compares them.
 fn expect_pieces(rt: &impl Abort, source: &mut impl Source, want: &[Result<&[u8], Failed>]) {
     for piece in want {
         let mut buffer = [0; 4];
@@ -18,7 +18,7 @@ fn expect_pieces(rt: &impl Abort, source: &mut impl Source, want: &[Result<&[u8]
     }
 }
 
-// Puts pieces, and compares the answers.
+/// Puts pieces, and compares the answers.
 fn expect_puts(
     rt: &impl Abort,
     alloc: Global,
@@ -31,7 +31,7 @@ fn expect_puts(
     }
 }
 
-// Fetches a file into an empty buffer, and compares the answer and the buffer.
+/// Fetches a file into an empty buffer, and compares the answer and the buffer.
 fn expect_fetch(
     rt: &impl Abort,
     alloc: Global,

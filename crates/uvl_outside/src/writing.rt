@@ -1,4 +1,4 @@
-// Writing to a writer of the standard library, where an interrupted call is tried again.
+//! Writing to a writer of the standard library, where an interrupted call is tried again.
 ghost use Rattle.std.specs.Prelude.{◌≢◌, ◌≤◌, length, take, IfOk, IfErr, OnErr};
 ghost use Rattle.std.specs.Io.KnownBytes.{Appends, Keeps};
 ghost use Rattle.std.specs.IoError.{error_kind};
@@ -8,7 +8,7 @@ use crate::reading::is_interrupted;
 use std::io;
 use std::io::{ErrorKind, Write};
 
-// One write of a front of the piece.
+/// One write of a front of the piece.
 fn write_retrying<W: Write>(writer: &mut W, piece: &[u8]) -> io::Result<usize>
     ensures within { IfOk result (λ count. count ≤ length piece.now) }
     ensures appends { IfOk result (λ count.
@@ -29,7 +29,7 @@ fn write_retrying<W: Write>(writer: &mut W, piece: &[u8]) -> io::Result<usize>
     Err(io::Error::from(ErrorKind::TimedOut))
 }
 
-// Hands on the bytes that the writer keeps.
+/// Hands on the bytes that the writer keeps.
 fn flush_retrying<W: Write>(writer: &mut W) -> io::Result<()>
     ensures keeps { Keeps (W.contents writer.old) (W.contents writer.new) }
     ensures retried { IfErr result (λ error. error_kind error ≢ ErrorKind.Interrupted) }
@@ -47,8 +47,8 @@ fn flush_retrying<W: Write>(writer: &mut W) -> io::Result<()>
     Err(io::Error::from(ErrorKind::TimedOut))
 }
 
-// Writes the whole piece, and hands on what the writer keeps. A writer that takes nothing of bytes
-// that are left fails.
+/// Writes the whole piece, and hands on what the writer keeps. A writer that takes nothing of bytes
+/// that are left fails.
 pub fn write_whole<W: Write>(writer: &mut W, piece: &[u8]) -> io::Result<()>
     ensures appends { Puts (W.contents writer.old) (W.contents writer.new) piece.now result }
     ensures retried { IfErr result (λ error. error_kind error ≢ ErrorKind.Interrupted) }

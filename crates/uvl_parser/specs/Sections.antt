@@ -16,7 +16,8 @@ use Rattle.uvl_ast.specs.declared.names.Ref.{Ref}
 use Rattle.uvl_ast.specs.declared.expression.Expr.{Expr}
 use Rattle.uvl_ast.specs.declared.feature.Feature.{Feature}
 use Rattle.uvl_ast.specs.declared.file.Import.{Import}
-use Rattle.uvl_parser.specs.Tokens.{IsWord, IsNewline, IsIndent, IsDedent, characters_of_word}
+use Rattle.uvl_lexer.specs.Words.{characters_of_word}
+use Rattle.uvl_parser.specs.Tokens.{IsWord, IsNewline, IsIndent, IsDedent}
 use Rattle.uvl_parser.specs.Shapes.{Spelling, OneOrMore, Body}
 use Rattle.uvl_parser.specs.Refs.{SpellsRef}
 use Rattle.uvl_parser.specs.Expressions.{SpellsExpr}

@@ -1,10 +1,9 @@
 -- What the grammar asks of a token, which is its kind alone, and what it takes from one.
-use Rattle.std.specs.Prelude.{◌≡◌, ℕ, ◌/◌, Bool, true, false, List, codes, ℤ, pos, negsuc, Option, Some, None}
+use Rattle.std.specs.Prelude.{◌≡◌, ℕ, ◌/◌, Bool, true, false, List, ℤ, pos, negsuc, Option, Some, None}
 use Rattle.uvl_lexer.specs.declared.token.Token.{Token}
 use Rattle.uvl_lexer.specs.declared.token.TokenKind.{TokenKind}
 use Rattle.uvl_lexer.specs.declared.token.TokenKind.TheVariants as token
 use Rattle.uvl_lexer.specs.declared.token.Word.{Word}
-use Rattle.uvl_lexer.specs.declared.token.Word.TheVariants as word
 use Rattle.uvl_lexer.specs.declared.token.Symbol.{Symbol}
 
 -- the token is this reserved word
@@ -55,29 +54,3 @@ whole_of _ = None
 abbrev pub text_of : TokenKind → Option (List ℕ)
 text_of (token.Text text) = Some text
 text_of _ = None
-
--- the characters of a reserved word
-abbrev pub characters_of_word : Word → List ℕ
-characters_of_word word.Namespace = codes "namespace"
-characters_of_word word.Include = codes "include"
-characters_of_word word.Imports = codes "imports"
-characters_of_word word.As = codes "as"
-characters_of_word word.Features = codes "features"
-characters_of_word word.Constraints = codes "constraints"
-characters_of_word word.Constraint = codes "constraint"
-characters_of_word word.Mandatory = codes "mandatory"
-characters_of_word word.Optional = codes "optional"
-characters_of_word word.Alternative = codes "alternative"
-characters_of_word word.Or = codes "or"
-characters_of_word word.Cardinality = codes "cardinality"
-characters_of_word word.Sum = codes "sum"
-characters_of_word word.Avg = codes "avg"
-characters_of_word word.Len = codes "len"
-characters_of_word word.Floor = codes "floor"
-characters_of_word word.Ceil = codes "ceil"
-characters_of_word word.True = codes "true"
-characters_of_word word.False = codes "false"
-characters_of_word word.Boolean = codes "Boolean"
-characters_of_word word.String = codes "String"
-characters_of_word word.Integer = codes "Integer"
-characters_of_word word.Real = codes "Real"

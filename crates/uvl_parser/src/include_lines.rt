@@ -3,7 +3,6 @@ ghost use Rattle.std.specs.Prelude.{◌≡◌, ◌++◌, Ok, Err, IfOk, OnOk, ch
 ghost use Rattle.std.specs.Option.{option_map};
 ghost use Rattle.uvl_lexer.specs.declared.token.TokenKind.TheVariants as token;
 ghost use Rattle.uvl_lexer.specs.declared.token.Word.TheVariants.{Include};
-ghost use Rattle.uvl_parser.specs.Tokens.{characters_of_word};
 ghost use Rattle.uvl_parser.specs.Tests.{stays, begins};
 ghost use Rattle.uvl_parser.specs.Sections.{level_part, written_name};
 ghost use Rattle.uvl_parser.specs.Reading.{Gives, many, one_or_more, body, with_front};
@@ -36,37 +35,6 @@ fn push_name(into: &mut String, name: &str, quoted: bool) -> Result<(), AllocErr
     push_text(into, "\"")
 }
 
-/// The spelling of a reserved word.
-fn word_text(word: Word) -> &'static str
-    ensures { result.now ≡ characters_of_word word }
-{
-    match word {
-        Word::Namespace => "namespace",
-        Word::Include => "include",
-        Word::Imports => "imports",
-        Word::As => "as",
-        Word::Features => "features",
-        Word::Constraints => "constraints",
-        Word::Constraint => "constraint",
-        Word::Mandatory => "mandatory",
-        Word::Optional => "optional",
-        Word::Alternative => "alternative",
-        Word::Or => "or",
-        Word::Cardinality => "cardinality",
-        Word::Sum => "sum",
-        Word::Avg => "avg",
-        Word::Len => "len",
-        Word::Floor => "floor",
-        Word::Ceil => "ceil",
-        Word::True => "true",
-        Word::False => "false",
-        Word::Boolean => "Boolean",
-        Word::String => "String",
-        Word::Integer => "Integer",
-        Word::Real => "Real",
-    }
-}
-
 /// The spelling of a symbol that may stand in a level.
 fn symbol_text(symbol: Symbol) -> Option<&'static str>
     ensures { option_map (λ t. t.now) result ≡ level_part (token.Symbol symbol) }
@@ -89,7 +57,7 @@ fn push_part(into: &mut String, kind: &TokenKind) -> Result<bool, AllocError>
             Ok(true)
         }
         TokenKind::Word(word) => {
-            push_text(into, word_text(*word))?;
+            push_text(into, word.text())?;
             Ok(true)
         }
         TokenKind::Symbol(symbol) => push_symbol(into, *symbol),

@@ -5,7 +5,7 @@ ghost use Rattle.std.specs.Char.{is_ascii_digit};
 ghost use Rattle.std.specs.List.{list_all};
 ghost use Rattle.std.specs.Str.{bytes_eq, IsUtf8};
 ghost use Rattle.clap.specs.Words.{app_of};
-ghost use Rattle.uvl_run.specs.CommandLine.{budget_of, request, request_of, request_with, usage_line};
+ghost use Rattle.uvl_run.specs.CommandLine.{budget_of, request, request_of, request_with};
 ghost use Rattle.uvl_run.specs.CommandLineRules.{AreTexts, has_lone_hyphen, words_command};
 
 use clap::error::ErrorKind;
