@@ -2,6 +2,7 @@ pub mod Brackets
 pub mod Characters
 pub mod Cut
 pub mod Forms
+pub mod Kinds
 pub mod Law
 pub mod Layout
 pub mod Levels

@@ -5,6 +5,7 @@ mod brackets;
 mod characters;
 mod comment;
 mod fault;
+mod kind;
 mod law;
 mod levels;
 mod lexer;

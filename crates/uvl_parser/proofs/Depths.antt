@@ -8,15 +8,15 @@ use Rattle.uvl_lexer.specs.declared.token.TokenKind.TheVariants as token
 use Rattle.uvl_lexer.specs.declared.token.Word.TheVariants as word
 use Rattle.uvl_ast.specs.declared.names.Ref.{Ref}
 use Rattle.uvl_ast.specs.declared.feature.Feature.{Feature}
-use Rattle.uvl_parser.specs.declared.named.section.Section.TheVariants.{Features}
+use Rattle.uvl_profile.specs.declared.section.Section.TheVariants.{Features}
 use Rattle.uvl_parser.specs.Tests.{is_word}
 use Rattle.uvl_parser.specs.Tokens.{name_of}
 use Rattle.uvl_parser.specs.Shapes.{Spelling, Body, No_body, Indented}
 use Rattle.uvl_parser.specs.Refs.{SpellsRef, Reference}
 use Rattle.uvl_parser.specs.Features.{SpellsBoolean, Not_said, Said, SpellsGroup, Members, Line, FeatureWithin}
-use Rattle.uvl_parser.specs.Named.Lines.{is_line_mark, begins_line}
-use Rattle.uvl_parser.specs.Named.Sections.{part_of}
-use Rattle.uvl_parser.specs.Named.Met.{is_name, names_feature, is_at_depth_65, is_feature_too_deep}
+use Rattle.uvl_profile.specs.Lines.{is_line_mark, begins_line}
+use Rattle.uvl_profile.specs.Sections.{part_of}
+use Rattle.uvl_profile.specs.Met.{is_name, names_feature, is_at_depth_65, is_feature_too_deep}
 use Rattle.uvl_parser.proofs.Walking.{walk, walk_append, Clear, clear_front, clear_back, in_line_append, in_line_of_body, LineBegins, next_line, deeper_line, outer_line, Passes, one_or_more_passes}
 use Rattle.uvl_parser.proofs.Inline.{ref_inline, braces_inline, kind_inline, boolean_inline}
 

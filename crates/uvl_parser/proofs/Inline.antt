@@ -24,7 +24,7 @@ use Rattle.uvl_parser.specs.Features as features
 use Rattle.uvl_parser.specs.Features.{SpellsBoolean}
 use Rattle.uvl_parser.specs.Sections as sections
 use Rattle.uvl_parser.specs.Sections.{SpellsLevelPart, SpellsAlias, level_part}
-use Rattle.uvl_parser.specs.Named.Lines.{is_line_mark}
+use Rattle.uvl_profile.specs.Lines.{is_line_mark}
 use Rattle.uvl_parser.proofs.Walking.{InLine, in_line_append}
 
 -- what a part is spelled by stands in a line

@@ -1,8 +1,4 @@
 pub mod TokenKinds
-pub mod Fronts
-pub mod Sorts
-pub mod Levels
-pub mod Scanned
 pub mod Naming
 pub mod Walking
 pub mod Inline

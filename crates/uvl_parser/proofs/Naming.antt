@@ -1,17 +1,19 @@
 -- What a scan answers at a token are the named faults that are met there.
-use Rattle.std.specs.Prelude.{◌≡◌, ℕ, ◌≤◌, ◌<◌, ◌⊎◌, Bool, true, false, cond, List, length, slice_get, Option, Some, None, MatchOption}
+use Rattle.std.specs.Prelude.{◌≡◌, ℕ, ◌≤◌, ◌<◌, ◌⊎◌, Bool, true, false, cond, List, length, slice_get, get_or, Result, Ok, Err, IfOk, Option, Some, None, MatchOption}
 use Rattle.std.proofs.Common.{refl, ap, subst, inl, inr, arith}
 use Rattle.std.proofs.lemmas.Bool.{both_ways}
-use Rattle.std.proofs.lemmas.Option.{slice_get_within}
+use Rattle.std.proofs.lemmas.Option.{slice_get_within, slice_get_cases}
 use Rattle.uvl_base.specs.declared.fault.FaultKind.{FaultKind}
 use Rattle.uvl_base.specs.declared.fault.FaultKind.TheVariants.{TypedFeature, FeatureCardinality, Average, UnsupportedOperation, ExpressionTooLarge, TooDeep}
 use Rattle.uvl_base.specs.Fault.{number_of}
 use Rattle.uvl_lexer.specs.declared.token.Token.{Token}
-use Rattle.uvl_parser.specs.declared.named.scan.Met.{Met}
+use Rattle.uvl_profile.specs.declared.candidate.Met.{Met}
 use Rattle.uvl_parser.specs.Dead.{Dead}
-use Rattle.uvl_parser.specs.Named.{IsMet, Typed, Cardinal, Averaged, Unsupported, Nested, IsMetAlive, Large, Deep, in_front, Named, By_tokens, Where_alive, NoneNamed, LowestNamed, IsFirstNamed}
-use Rattle.uvl_parser.specs.Named.Met.{is_typed_feature, is_feature_cardinality, is_average, is_unsupported, is_nested_too_deep, is_feature_too_deep, is_node_too_many}
-use Rattle.uvl_parser.specs.Named.Scan.{met_by_word, if_nested, met_limit, met_either, met_of}
+use Rattle.uvl_parser.specs.Named.{IsMet, Typed, Cardinal, Averaged, Unsupported, Nested, IsMetAlive, Large, Deep, Named, By_tokens, Where_alive, NoneNamed, LowestNamed, IsFirstNamed}
+use Rattle.uvl_profile.specs.declared.candidate.Candidate.{Candidate}
+use Rattle.uvl_profile.specs.First.{in_front, NothingMet, IsFirstMet}
+use Rattle.uvl_profile.specs.Met.{is_typed_feature, is_feature_cardinality, is_average, is_unsupported, is_nested_too_deep, is_feature_too_deep, is_node_too_many}
+use Rattle.uvl_profile.specs.Met.{met_by_word, if_nested, met_limit, met_either, met_of}
 
 -- ---- the first of some tests
 
@@ -281,3 +283,33 @@ module _ (tokens : List Token) (k : ℕ) (t : Token) (here : slice_get tokens k 
 pub named_within : (tokens : List Token) (k : ℕ) (kind : FaultKind) → Named tokens k kind → k < length tokens
 named_within tokens k kind (By_tokens t is m) = slice_get_within tokens k t is
 named_within tokens k kind (Where_alive t is m alive) = slice_get_within tokens k t is
+
+-- ---- in a list
+
+module _ (tokens : List Token) where
+  -- where nothing is met at a token, no named fault is
+  pub nothing_named : (k : ℕ) → NothingMet tokens k → NoneNamed tokens k
+  nothing_named k nothing kind (By_tokens t is m) = none_named tokens k t is (nothing t is) kind (By_tokens t is m)
+  nothing_named k nothing kind (Where_alive t is m alive) = none_named tokens k t is (nothing t is) kind (Where_alive t is m alive)
+
+  first_with : (c : Candidate) → IsFirstMet tokens c → (t : Token) → slice_get tokens c.index ≡ Some t → IsFirstNamed tokens c
+  first_with c first t here =
+      named_first tokens c.index t here (record { alive = c.alive; dead = c.dead }) (first.met t here) first.within
+      (λ k before. nothing_named k (first.none_before k before))
+
+  -- the first token at which something is met is the first that is named
+  pub first_is_named : (c : Candidate) → IsFirstMet tokens c → IsFirstNamed tokens c
+  first_is_named c first = with_token (slice_get_cases tokens c.index).1
+    where
+      with_token : ((x : Token) × (c.index < length tokens) × (slice_get tokens c.index ≡ Some x) × (get_or tokens c.index x ≡ x))
+          ⊎ ((length tokens ≤ c.index) × (slice_get tokens c.index ≡ None)) → IsFirstNamed tokens c
+      with_token (inl found) = first_with c first found.0 found.2
+      with_token (inr past) = absurd (omega (arith, past.0, first.within))
+
+  -- of the answer of a search
+  pub searched_named : {E : Type 0} (result : Result (Option Candidate) E)
+      → IfOk result (λ found. MatchOption found ((k : ℕ) → NothingMet tokens k) (IsFirstMet tokens))
+      → IfOk result (λ found. MatchOption found ((k : ℕ) → NoneNamed tokens k) (IsFirstNamed tokens))
+  searched_named (Ok None) met = λ k. nothing_named k (met k)
+  searched_named (Ok (Some c)) met = first_is_named c met
+  searched_named (Err e) met = tt

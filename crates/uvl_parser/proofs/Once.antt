@@ -11,11 +11,12 @@ use Rattle.uvl_base.specs.Fault.{number_of}
 use Rattle.uvl_lexer.specs.declared.token.Token.{Token}
 use Rattle.uvl_lexer.specs.TokenList.{IsTokenList}
 use Rattle.uvl_ast.specs.declared.file.File.{File}
-use Rattle.uvl_parser.specs.declared.named.candidate.Candidate.{Candidate}
-use Rattle.uvl_parser.specs.declared.named.scan.Met.{Met}
+use Rattle.uvl_profile.specs.declared.candidate.Candidate.{Candidate}
+use Rattle.uvl_profile.specs.declared.candidate.Met.{Met}
 use Rattle.uvl_parser.specs.File.{Spells}
-use Rattle.uvl_parser.specs.Named.{Typed, Cardinal, Averaged, Unsupported, Nested, Large, Deep, in_front, Named, By_tokens, Where_alive, NoneNamed, LowestNamed, IsFirstNamed}
-use Rattle.uvl_parser.specs.Named.Scan.{met_of}
+use Rattle.uvl_parser.specs.Named.{Typed, Cardinal, Averaged, Unsupported, Nested, Large, Deep, Named, By_tokens, Where_alive, NoneNamed, LowestNamed, IsFirstNamed}
+use Rattle.uvl_profile.specs.First.{in_front}
+use Rattle.uvl_profile.specs.Met.{met_of}
 use Rattle.uvl_parser.specs.Parsing.{IsParsedAs, IsSyntax, IsFaultAt, IsRefusedAt, IsParsedOnce}
 use Rattle.uvl_parser.specs.Reading.{Read}
 use Rattle.uvl_parser.specs.Readers.File.{file}

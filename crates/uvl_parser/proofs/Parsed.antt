@@ -10,7 +10,7 @@ use Rattle.uvl_lexer.specs.declared.token.Token.{Token}
 use Rattle.uvl_lexer.specs.declared.token.TokenKind.TheVariants as token
 use Rattle.uvl_lexer.specs.TokenList.{IsTokenList, AreInner, IsInner}
 use Rattle.uvl_ast.specs.declared.file.File.{File}
-use Rattle.uvl_parser.specs.declared.named.candidate.Candidate.{Candidate}
+use Rattle.uvl_profile.specs.declared.candidate.Candidate.{Candidate}
 use Rattle.uvl_parser.specs.File.{Spells, A_file}
 use Rattle.uvl_parser.specs.Dead.{Dead}
 use Rattle.uvl_parser.specs.Named.{NoneNamed, LowestNamed, IsFirstNamed}

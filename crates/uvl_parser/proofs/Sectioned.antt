@@ -6,14 +6,14 @@ use Rattle.uvl_lexer.specs.declared.token.Token.{Token}
 use Rattle.uvl_lexer.specs.declared.token.TokenKind.TheVariants as token
 use Rattle.uvl_lexer.specs.declared.token.Word.{Word}
 use Rattle.uvl_ast.specs.declared.names.Ref.{Ref}
-use Rattle.uvl_parser.specs.declared.named.section.Section.{Section}
-use Rattle.uvl_parser.specs.declared.named.section.SectionPart.TheVariants.{Outside, Heading, Headed, Body}
+use Rattle.uvl_profile.specs.declared.section.Section.{Section}
+use Rattle.uvl_profile.specs.declared.section.SectionPart.TheVariants.{Outside, Heading, Headed, Body}
 use Rattle.uvl_parser.specs.Tests.{is_newline, is_indent}
 use Rattle.uvl_parser.specs.Tokens.{IsWord, IsNewline, IsIndent, IsDedent}
 use Rattle.uvl_parser.specs.Shapes.{Spelling, No_body, Indented}
 use Rattle.uvl_parser.specs.Sections.{SpellsSection, No_section, Lines, SpellsNamespace, No_namespace, Namespace, SpellsLevel, Level, SpellsImport, Import_line, SpellsRule, Rule}
-use Rattle.uvl_parser.specs.Named.Lines.{is_line_mark, begins_line}
-use Rattle.uvl_parser.specs.Named.Sections.{section_named, in_heading, behind_outside, part_behind, part_of}
+use Rattle.uvl_profile.specs.Lines.{is_line_mark, begins_line}
+use Rattle.uvl_profile.specs.Sections.{section_named, in_heading, behind_outside, part_behind, part_of}
 use Rattle.uvl_parser.proofs.Walking.{walk, walk_append, InLine, in_line_append, in_line_of_body, LineBegins, next_line, Clear, Passes, one_or_more_passes}
 use Rattle.uvl_parser.proofs.Inline.{ref_inline, level_inline, alias_inline, expr_inline}
 

@@ -8,7 +8,7 @@ use Rattle.uvl_lexer.specs.declared.token.Token.{Token}
 use Rattle.uvl_lexer.specs.declared.token.Word.TheVariants as word
 use Rattle.uvl_ast.specs.declared.feature.Feature.{Feature}
 use Rattle.uvl_ast.specs.declared.file.File.{File}
-use Rattle.uvl_parser.specs.declared.named.section.Section.TheVariants.{Include, Imports, Features}
+use Rattle.uvl_profile.specs.declared.section.Section.TheVariants.{Include, Imports, Features}
 use Rattle.uvl_parser.specs.Features.{FeatureWithin}
 use Rattle.uvl_parser.specs.Sections.{SpellsLevel, SpellsImport, SpellsFeatures, No_features, Root}
 use Rattle.uvl_parser.specs.File.{Spells, A_file}

@@ -5,13 +5,13 @@ use Rattle.std.proofs.lemmas.Bool.{le-ltb}
 use Rattle.uvl_lexer.specs.declared.token.Token.{Token}
 use Rattle.uvl_lexer.specs.declared.token.TokenKind.{TokenKind}
 use Rattle.uvl_lexer.specs.declared.token.TokenKind.TheVariants as token
-use Rattle.uvl_parser.specs.declared.named.section.Section.{Section}
-use Rattle.uvl_parser.specs.declared.named.section.SectionPart.TheVariants.{Outside, Body}
+use Rattle.uvl_profile.specs.declared.section.Section.{Section}
+use Rattle.uvl_profile.specs.declared.section.SectionPart.TheVariants.{Outside, Body}
 use Rattle.uvl_parser.specs.Tests.{is_newline, is_indent, is_dedent}
 use Rattle.uvl_parser.specs.Tokens.{IsNewline, IsIndent, IsDedent}
 use Rattle.uvl_parser.specs.Shapes.{Spelling, Repeated, None_more, One_more, OneOrMore, First}
-use Rattle.uvl_parser.specs.Named.Lines.{is_line_mark, begins_line}
-use Rattle.uvl_parser.specs.Named.Sections.{part_behind, part_of}
+use Rattle.uvl_profile.specs.Lines.{is_line_mark, begins_line}
+use Rattle.uvl_profile.specs.Sections.{part_behind, part_of}
 
 -- the tokens in front, the nearest first, behind more of them
 abbrev pub walk : List Token → List Token → List Token

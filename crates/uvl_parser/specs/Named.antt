@@ -1,20 +1,14 @@
 -- The faults with a name of their own that tokens may have, beside those of the grammar, and the token at
 -- which each is met.
-use Rattle.std.specs.Prelude.{◌≡◌, ℕ, ◌≤◌, ◌<◌, true, List, length, reverse, take, slice_get, Some, MatchOption}
+use Rattle.std.specs.Prelude.{◌≡◌, ℕ, ◌≤◌, ◌<◌, true, List, length, slice_get, Some, MatchOption}
 use Rattle.uvl_base.specs.declared.fault.FaultKind.{FaultKind}
 use Rattle.uvl_base.specs.declared.fault.FaultKind.TheVariants.{TypedFeature, FeatureCardinality, Average, UnsupportedOperation, ExpressionTooLarge, TooDeep}
 use Rattle.uvl_base.specs.Fault.{number_of}
 use Rattle.uvl_lexer.specs.declared.token.Token.{Token}
-use Rattle.uvl_parser.specs.declared.named.candidate.Candidate.{Candidate}
+use Rattle.uvl_profile.specs.declared.candidate.Candidate.{Candidate}
 use Rattle.uvl_parser.specs.Dead.{Dead}
-use Rattle.uvl_parser.specs.Named.Met.{is_typed_feature, is_feature_cardinality, is_average, is_unsupported, is_nested_too_deep, is_feature_too_deep, is_node_too_many}
-pub mod Lines
-pub mod Sections
-pub mod Nesting
-pub mod Rules
-pub mod Met
-pub mod Depth
-pub mod Scan
+pub use Rattle.uvl_profile.specs.First.{in_front}
+use Rattle.uvl_profile.specs.Met.{is_typed_feature, is_feature_cardinality, is_average, is_unsupported, is_nested_too_deep, is_feature_too_deep, is_node_too_many}
 
 -- what is met at a token by the tokens alone: those in front of it, the nearest first, and itself
 pub data IsMet (before : List Token) (t : Token) : FaultKind → Type 0 where
@@ -28,10 +22,6 @@ pub data IsMet (before : List Token) (t : Token) : FaultKind → Type 0 where
 pub data IsMetAlive (before : List Token) (t : Token) : FaultKind → Type 0 where
   Large : is_node_too_many before t.kind ≡ true → IsMetAlive before t ExpressionTooLarge
   Deep : is_feature_too_deep before t.kind ≡ true → IsMetAlive before t TooDeep
-
--- the tokens in front of the k-th, the nearest first
-abbrev pub in_front : ℕ → List Token → List Token
-in_front k tokens = reverse (take k tokens)
 
 -- a named fault is met at the k-th token
 pub data Named (tokens : List Token) (k : ℕ) (kind : FaultKind) : Type 0 where

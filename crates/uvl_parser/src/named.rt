@@ -1,14 +1,14 @@
-//! The faults with a name of their own: the first token at which one is met.
-mod candidate;
-mod kinds;
-mod line;
-mod nesting;
-mod rule;
-mod scan;
-mod section;
+//! The first token at which a fault with a name of its own is met.
+ghost use Rattle.std.specs.Prelude.{ℕ, IfOk, MatchOption};
+ghost use Rattle.uvl_parser.specs.Named.{NoneNamed, IsFirstNamed};
 
-pub(crate) use candidate::Candidate;
-pub(crate) use scan::first_named;
+use std::alloc::{AllocError, Global};
+use uvl_lexer::Token;
+use uvl_profile::{Candidate, first_met};
 
-#[cfg(test)]
-mod tests;
+/// The first token at which a named fault is met, or would be if it could stand there.
+pub(crate) fn first_named(alloc: Global, tokens: &[Token]) -> Result<Option<Candidate>, AllocError>
+    ensures { IfOk result (λ found. MatchOption found ((k : ℕ) → NoneNamed tokens.now k) (IsFirstNamed tokens.now)) }
+{
+    first_met(alloc, tokens)
+}

@@ -12,12 +12,13 @@ ghost use Rattle.std.specs.Option.{unwrap_or};
 
 use crate::fault::ParseFault;
 use crate::file::file;
-use crate::named::{Candidate, first_named};
+use crate::named::first_named;
 use crate::reading::Stop;
 use std::alloc::Global;
 use uvl_ast::File;
 use uvl_base::FaultKind;
 use uvl_lexer::Token;
+use uvl_profile::Candidate;
 
 /// The file that the tokens spell. A list that spells none, or in which a fault with a name of its
 /// own is met, is refused at the first token at which such a fault is met or with which no file

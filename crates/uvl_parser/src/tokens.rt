@@ -8,32 +8,12 @@ use crate::reading::Stop;
 use uvl_base::{Name, Place};
 use uvl_lexer::{Symbol, Token, TokenKind, Word};
 
-/// Whether a token is this reserved word.
-pub(crate) fn is_word(kind: &TokenKind, word: Word) -> bool
-    ensures { result ≡ is_word word kind.now }
-{
-    match kind {
-        TokenKind::Word(other) => *other as u8 == word as u8,
-        _ => false,
-    }
-}
-
-/// Whether a token is this symbol.
-pub(crate) fn is_symbol(kind: &TokenKind, symbol: Symbol) -> bool
-    ensures { result ≡ is_symbol symbol kind.now }
-{
-    match kind {
-        TokenKind::Symbol(other) => *other as u8 == symbol as u8,
-        _ => false,
-    }
-}
-
 /// Whether the first token is this symbol.
 pub(crate) fn begins_with_symbol(tokens: &[Token], symbol: Symbol) -> bool
     ensures { result ≡ begins (is_symbol symbol) tokens.now }
 {
     match tokens.split_first() {
-        Some((token, _)) => is_symbol(&token.kind, symbol),
+        Some((token, _)) => token.kind.is_symbol(symbol),
         None => false,
     }
 }
@@ -46,7 +26,7 @@ pub(crate) fn symbol(tokens: &[Token], symbol: Symbol) -> Result<(Place, &[Token
     let Some((token, rest)) = tokens.split_first() else {
         return Err(Stop::Stuck { left: 0 });
     };
-    if is_symbol(&token.kind, symbol) {
+    if token.kind.is_symbol(symbol) {
         Ok((token.place, rest))
     } else {
         Err(Stop::Stuck { left: tokens.len() })
@@ -58,7 +38,7 @@ pub(crate) fn begins_with_word(tokens: &[Token], word: Word) -> bool
     ensures { result ≡ begins (is_word word) tokens.now }
 {
     match tokens.split_first() {
-        Some((token, _)) => is_word(&token.kind, word),
+        Some((token, _)) => token.kind.is_word(word),
         None => false,
     }
 }
@@ -71,7 +51,7 @@ pub(crate) fn word(tokens: &[Token], word: Word) -> Result<(Place, &[Token]), St
     let Some((token, rest)) = tokens.split_first() else {
         return Err(Stop::Stuck { left: 0 });
     };
-    if is_word(&token.kind, word) {
+    if token.kind.is_word(word) {
         Ok((token.place, rest))
     } else {
         Err(Stop::Stuck { left: tokens.len() })
@@ -83,7 +63,7 @@ pub(crate) fn begins_with_indent(tokens: &[Token]) -> bool
     ensures { result ≡ begins is_indent tokens.now }
 {
     match tokens.split_first() {
-        Some((token, _)) => is_indent(&token.kind),
+        Some((token, _)) => token.kind.is_indent(),
         None => false,
     }
 }
@@ -93,33 +73,9 @@ pub(crate) fn stays(tokens: &[Token]) -> bool
     ensures { result ≡ begins stays tokens.now }
 {
     match tokens.split_first() {
-        Some((token, _)) => !is_dedent(&token.kind),
+        Some((token, _)) => !token.kind.is_dedent(),
         None => false,
     }
-}
-
-fn is_newline(kind: &TokenKind) -> bool
-    ensures { result ≡ is_newline kind.now }
-{
-    matches!(kind, TokenKind::Newline)
-}
-
-fn is_indent(kind: &TokenKind) -> bool
-    ensures { result ≡ is_indent kind.now }
-{
-    matches!(kind, TokenKind::Indent)
-}
-
-fn is_dedent(kind: &TokenKind) -> bool
-    ensures { result ≡ is_dedent kind.now }
-{
-    matches!(kind, TokenKind::Dedent)
-}
-
-fn is_finish(kind: &TokenKind) -> bool
-    ensures { result ≡ is_finish kind.now }
-{
-    matches!(kind, TokenKind::Finish)
 }
 
 /// Reads the end of a line.
@@ -130,7 +86,7 @@ pub(crate) fn newline(tokens: &[Token]) -> Result<(Place, &[Token]), Stop>
     let Some((token, rest)) = tokens.split_first() else {
         return Err(Stop::Stuck { left: 0 });
     };
-    if is_newline(&token.kind) {
+    if token.kind.is_newline() {
         Ok((token.place, rest))
     } else {
         Err(Stop::Stuck { left: tokens.len() })
@@ -145,7 +101,7 @@ pub(crate) fn indent(tokens: &[Token]) -> Result<(Place, &[Token]), Stop>
     let Some((token, rest)) = tokens.split_first() else {
         return Err(Stop::Stuck { left: 0 });
     };
-    if is_indent(&token.kind) {
+    if token.kind.is_indent() {
         Ok((token.place, rest))
     } else {
         Err(Stop::Stuck { left: tokens.len() })
@@ -160,7 +116,7 @@ pub(crate) fn dedent(tokens: &[Token]) -> Result<(Place, &[Token]), Stop>
     let Some((token, rest)) = tokens.split_first() else {
         return Err(Stop::Stuck { left: 0 });
     };
-    if is_dedent(&token.kind) {
+    if token.kind.is_dedent() {
         Ok((token.place, rest))
     } else {
         Err(Stop::Stuck { left: tokens.len() })
@@ -175,7 +131,7 @@ pub(crate) fn finish(tokens: &[Token]) -> Result<(Place, &[Token]), Stop>
     let Some((token, rest)) = tokens.split_first() else {
         return Err(Stop::Stuck { left: 0 });
     };
-    if is_finish(&token.kind) {
+    if token.kind.is_finish() {
         Ok((token.place, rest))
     } else {
         Err(Stop::Stuck { left: tokens.len() })

@@ -1,0 +1,4 @@
+pub mod Fronts
+pub mod Sorts
+pub mod Levels
+pub mod Scanned

@@ -1,0 +1,102 @@
+-- What a scan keeps is what the tokens in front of a place say.
+use Rattle.std.specs.Prelude.{◌≡◌, ℕ, suc, ◌+◌, ◌-◌, ◌≤◌, Bool, true, false, ◌&&◌, ◌==◌, nat_lt, cond, List, [], ◌∷◌, length, reverse, Option, Some, None}
+use Rattle.std.proofs.Common.{refl, sym, ap, ◌∙◌, arith}
+use Rattle.std.proofs.lemmas.Bool.Decides.{nat_tests}
+use Rattle.std.proofs.lemmas.List.{length-reverse}
+use Rattle.uvl_lexer.specs.declared.token.Token.{Token}
+use Rattle.uvl_lexer.specs.declared.token.TokenKind.{TokenKind}
+use Rattle.uvl_lexer.specs.declared.token.TokenKind.TheVariants as token
+use Rattle.uvl_profile.specs.declared.nesting.Nesting.{Nesting}
+use Rattle.uvl_profile.specs.declared.section.Section.{Section}
+use Rattle.uvl_profile.specs.declared.section.SectionPart.{SectionPart}
+use Rattle.uvl_profile.specs.declared.section.SectionPart.TheVariants.{Outside, Heading, Headed, Body}
+use Rattle.uvl_lexer.specs.Kinds.{is_newline, is_indent, is_dedent}
+use Rattle.uvl_profile.specs.Lines.{is_line_mark, begins_line, line_of}
+use Rattle.uvl_profile.specs.Sections.{section_named, in_heading, behind_outside, part_behind, part_of}
+use Rattle.uvl_profile.specs.Nesting.{deepens, open_brackets, nesting}
+use Rattle.uvl_profile.specs.Depth.{depth_around, depth_of}
+use Rattle.uvl_profile.specs.Rules.{rule_behind, ends_rule, with_node, is_node, rule_nodes}
+use Rattle.uvl_profile.specs.Met.{is_nested_too_deep}
+use Rattle.uvl_profile.specs.Scan.{levels_behind, levels_of, levels_kept, levels_in, nodes_in}
+use Rattle.uvl_profile.proofs.Sorts.{sort_of}
+use Rattle.uvl_profile.proofs.Levels.{nesting_is, brackets_are, some_level, deepens_levels, depth_behind}
+
+-- ---- no more than one for each token
+
+either : {A : Type 0} (f : A → ℕ) (b : Bool) (x y : A) (n : ℕ) → f x ≤ n → f y ≤ n → f (cond b x y) ≤ n
+either f true x y n l r = l
+either f false x y n l r = r
+
+heading_low : (o : Option Section) → levels_in (in_heading o) ≡ 0
+heading_low (Some s) = refl
+heading_low None = refl
+
+outside_low : (first : Bool) (kind : TokenKind) → levels_in (behind_outside first kind) ≡ 0
+outside_low true kind = heading_low (section_named kind)
+outside_low false kind = refl
+
+levels_grow : (part : SectionPart) (first : Bool) (kind : TokenKind) → levels_in (part_behind part first kind) ≤ levels_in part + 1
+levels_grow Outside first kind = omega (arith, outside_low first kind)
+levels_grow (Heading s) first kind = either levels_in (is_newline kind) (Headed s) (Heading s) 1 (omega arith) (omega arith)
+levels_grow (Headed s) first kind =
+    either levels_in (is_indent kind) (Body s 1) (behind_outside first kind) 1 (omega arith) (omega (arith, outside_low first kind))
+levels_grow (Body s levels) first kind =
+    either levels_in (is_indent kind) (Body s (levels + 1)) _ (levels + 1) (omega arith)
+    (either levels_in (is_dedent kind) _ (Body s levels) (levels + 1)
+    (either levels_in (nat_lt levels 2) Outside (Body s (levels - 1)) (levels + 1) (omega arith) (omega arith)) (omega arith))
+
+pub levels_few : (before : List Token) → levels_in (part_of before) ≤ length before
+levels_few [] = omega arith
+levels_few (t ∷ before) = omega (arith, levels_few before, levels_grow (part_of before) (begins_line before) t.kind)
+
+node_more : (node : Bool) (nodes : Option ℕ) → nodes_in (with_node node nodes) ≤ nodes_in nodes + 1
+node_more node None = omega arith
+node_more true (Some nodes) = omega arith
+node_more false (Some nodes) = omega arith
+
+pub nodes_few : (before : List Token) → nodes_in (rule_nodes before) ≤ length before
+nodes_few [] = omega arith
+nodes_few (t ∷ before) =
+    let more = node_more (is_node before t.kind) (rule_nodes before) in
+    let few = nodes_few before in
+    either nodes_in (rule_behind before t) (Some 0) _ (suc (length before)) (omega arith)
+    (either nodes_in (ends_rule t.kind) None _ (suc (length before)) (omega arith) (omega (arith, more, few)))
+
+pub depth_small : (before : List Token) → depth_of (levels_of before) ≤ length before
+depth_small [] = omega arith
+depth_small (t ∷ before) =
+    either depth_of (is_line_mark t.kind) (0 ∷ []) (levels_behind (levels_of before) t.kind) (suc (length before)) (omega arith)
+    (omega (arith, depth_small before, depth_behind (levels_of before) t.kind (sort_of t.kind) (some_level before)))
+
+-- the nesting that is kept
+pub depth_few : (n : Nesting) (before : List Token) → levels_kept n ≡ levels_of before → n.depth ≡ n.inside + depth_around (reverse n.around.items)
+    → n.depth ≤ length before
+depth_few n before levels counted = omega (arith, depth_small before, ap depth_of levels, counted)
+
+-- ---- what is kept answers
+
+deepens_no_mark : (kind : TokenKind) → deepens kind ≡ true → is_line_mark kind ≡ false
+deepens_no_mark token.Newline d = cc
+deepens_no_mark token.Indent d = cc
+deepens_no_mark token.Dedent d = cc
+deepens_no_mark _ d = refl
+
+pub nested_there : (n : Nesting) (before : List Token) (t : Token) → levels_kept n ≡ levels_of before
+    → n.depth ≡ n.inside + depth_around (reverse n.around.items) → deepens t.kind ≡ true → (n.depth == 128) ≡ is_nested_too_deep before t
+nested_there n before t levels counted d =
+    let now : n.depth ≡ depth_of (levels_of before) = counted ∙ ap depth_of levels in
+    let more = deepens_levels (levels_of before) t.kind (sort_of t.kind) (some_level before) d in
+    let behind : depth_of (levels_of (t ∷ before)) ≡ depth_of (levels_of before) + 1 =
+    ap (λ m. depth_of (cond m (0 ∷ []) (levels_behind (levels_of before) t.kind))) (deepens_no_mark t.kind d) ∙ more in
+    same_test n.depth (nesting (line_of (t ∷ before))) (sym (nesting_is (t ∷ before)) ∙ behind ∙ ap (λ k. k + 1) (sym now))
+    ∙ ap (λ b. b && nesting (line_of (t ∷ before)) == 129) (sym d)
+  where
+    same_test : (m k : ℕ) → k ≡ m + 1 → (m == 128) ≡ (k == 129)
+    same_test m k e = grind (arith, nat_tests)
+
+pub outside_there : (n : Nesting) (before : List Token) → levels_kept n ≡ levels_of before
+    → (length n.around.items == 0) ≡ (open_brackets (line_of before) == 0)
+outside_there n before levels =
+    let same : length n.around.items ≡ open_brackets (line_of before) =
+    omega (arith, ap length levels, brackets_are before, length-reverse n.around.items) in
+    ap (λ k. k == 0) same
