@@ -1,2 +1,4 @@
 pub mod Depth
 pub mod Members
+pub mod Nesting
+pub mod Operands

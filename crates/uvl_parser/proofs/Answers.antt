@@ -8,12 +8,15 @@ use Rattle.uvl_ast.specs.declared.file.File.{File}
 use Rattle.uvl_ast.specs.declared.feature.Feature.{Feature}
 use Rattle.uvl_ast.specs.Depth.{depth_of}
 use Rattle.uvl_ast.specs.Members.{EachGroupHasMembers}
+use Rattle.uvl_ast.specs.Nesting.{EachValueNests}
+use Rattle.uvl_ast.specs.Operands.{EachRuleStandsWithin}
 use Rattle.uvl_parser.specs.declared.fault.ParseFault.{ParseFault}
 use Rattle.uvl_parser.specs.declared.fault.ParseFault.TheVariants.{At, OutOfMemory}
 use Rattle.uvl_parser.specs.Parsing.{IsParsedAs, IsRefusedAt, OnFault}
 use Rattle.uvl_parser.proofs.Shallow.{IsShallow, file_shallow}
 use Rattle.uvl_parser.proofs.Once.{never_both}
 use Rattle.uvl_parser.proofs.Parts.Members.{within_depth, within_members}
+use Rattle.uvl_parser.proofs.Nesting.Files.{file_nested, file_grouped}
 
 module _ (tokens : List Token) where
   abbrev Refuses : ParseFault → Type 0
@@ -47,3 +50,11 @@ module _ (tokens : List Token) where
   pub members : (r : Result File ParseFault) → IfOk r (λ f. IsParsedAs tokens f) → IfOk r (λ f. IfSome f.root EachGroupHasMembers)
   members (Ok f) told = root_members f.root (file_shallow tokens f told.spelled told.unnamed)
   members (Err fault) told = tt
+
+  pub nested : (r : Result File ParseFault) → IfOk r (λ f. IsParsedAs tokens f) → IfOk r (λ f. IfSome f.root (EachValueNests 127))
+  nested (Ok f) told = file_nested tokens f told.spelled told.unnamed
+  nested (Err fault) told = tt
+
+  pub grouped : (r : Result File ParseFault) → IfOk r (λ f. IsParsedAs tokens f) → IfOk r (EachRuleStandsWithin 516)
+  grouped (Ok f) told = file_grouped tokens f told.spelled told.unnamed
+  grouped (Err fault) told = tt

@@ -5,6 +5,7 @@ pub mod Inline
 pub mod Depths
 pub mod Sectioned
 pub mod Shallow
+pub mod Nesting
 pub mod Parsed
 pub mod Once
 pub mod Answers

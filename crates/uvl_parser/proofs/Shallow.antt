@@ -28,7 +28,7 @@ spelled_alive tokens file k spelled dead =
 -- ---- where nothing is named, no feature is too deep
 
 -- the token behind a front
-token_behind : (front : List Token) (t : Token) (rest : List Token) → slice_get (front ++ t ∷ rest) (length front) ≡ Some t
+pub token_behind : (front : List Token) (t : Token) (rest : List Token) → slice_get (front ++ t ∷ rest) (length front) ≡ Some t
 token_behind [] t rest = refl
 token_behind (u ∷ front) t rest = token_behind front t rest
 

@@ -6,6 +6,8 @@ ghost use Rattle.uvl_lexer.specs.TokenList.{IsTokenList};
 ghost use Rattle.uvl_ast.specs.declared.file.File.{File};
 ghost use Rattle.uvl_ast.specs.Depth.{depth_of};
 ghost use Rattle.uvl_ast.specs.Members.{EachGroupHasMembers};
+ghost use Rattle.uvl_ast.specs.Nesting.{EachValueNests};
+ghost use Rattle.uvl_ast.specs.Operands.{EachRuleStandsWithin};
 ghost use Rattle.uvl_parser.specs.Named.{NoneNamed, IsFirstNamed};
 ghost use Rattle.uvl_parser.specs.Parsing.{IsParsedAs, IsFaultAt, IsRefusedAt, OnFault};
 ghost use Rattle.std.specs.Option.{unwrap_or};
@@ -24,7 +26,10 @@ use uvl_profile::Candidate;
 /// own is met, is refused at the first token at which such a fault is met or with which no file
 /// begins: for the named fault with the lowest number that is met there, or else for `Syntax`.
 /// Nothing but want of memory refuses a list that spells a file without named faults. Features of
-/// the file nest at most 64 deep, and each group has members.
+/// the file nest at most 64 deep, and each group has members. Lists and vectors nest at most 127
+/// deep in the value of an attribute: the 128th bracket is the feature's own. A node of a rule
+/// stands in the right operands of at most 516 operators `&`, `|`, `=>` and `<=>`: of one of each
+/// outside, and in each of 128 brackets and `!`.
 pub fn parse(alloc: Global, tokens: &[Token]) -> Result<File, ParseFault>
     requires { IsTokenList tokens.now }
     ensures file { IfOk result (λ file. IsParsedAs tokens.now file) }
@@ -33,6 +38,8 @@ pub fn parse(alloc: Global, tokens: &[Token]) -> Result<File, ParseFault>
     ensures never_read { (place : Place) (kind : FaultKind) → IsRefusedAt tokens.now place kind → IsErr result }
     ensures shallow { IfOk result (λ file. IfSome file.root (λ root. depth_of root ≤ 64)) }
     ensures members { IfOk result (λ file. IfSome file.root EachGroupHasMembers) }
+    ensures nested { IfOk result (λ file. IfSome file.root (EachValueNests 127)) }
+    ensures grouped { IfOk result (EachRuleStandsWithin 516) }
 {
     parse_tokens(alloc, tokens)
 }

@@ -128,24 +128,24 @@ one_more b false = refl
 -- ---- the levels behind a token, by its sort
 
 module _ (kind : TokenKind) (b : ℕ) (bs : List ℕ) where
-  opened_levels : opens_bracket kind ≡ true → levels_behind (b ∷ bs) kind ≡ 0 ∷ b ∷ bs
+  pub opened_levels : opens_bracket kind ≡ true → levels_behind (b ∷ bs) kind ≡ 0 ∷ b ∷ bs
   opened_levels o = ap (λ x. cond x (0 ∷ b ∷ bs) (cond (closes_bracket kind) (outer_levels bs) (cond (ends_operand kind) (0 ∷ bs) (cond (is_symbol symbol.Bang kind) ((b + 1) ∷ bs) (b ∷ bs))))) o
 
   not_opened : opens_bracket kind ≡ false
       → levels_behind (b ∷ bs) kind ≡ cond (closes_bracket kind) (outer_levels bs) (cond (ends_operand kind) (0 ∷ bs) (cond (is_symbol symbol.Bang kind) ((b + 1) ∷ bs) (b ∷ bs)))
   not_opened o = ap (λ x. cond x (0 ∷ b ∷ bs) (cond (closes_bracket kind) (outer_levels bs) (cond (ends_operand kind) (0 ∷ bs) (cond (is_symbol symbol.Bang kind) ((b + 1) ∷ bs) (b ∷ bs))))) o
 
-  closed_levels : opens_bracket kind ≡ false → closes_bracket kind ≡ true → levels_behind (b ∷ bs) kind ≡ outer_levels bs
+  pub closed_levels : opens_bracket kind ≡ false → closes_bracket kind ≡ true → levels_behind (b ∷ bs) kind ≡ outer_levels bs
   closed_levels o c = not_opened o ∙ ap (λ x. cond x (outer_levels bs) (cond (ends_operand kind) (0 ∷ bs) (cond (is_symbol symbol.Bang kind) ((b + 1) ∷ bs) (b ∷ bs)))) c
 
   not_closed : opens_bracket kind ≡ false → closes_bracket kind ≡ false
       → levels_behind (b ∷ bs) kind ≡ cond (ends_operand kind) (0 ∷ bs) (cond (is_symbol symbol.Bang kind) ((b + 1) ∷ bs) (b ∷ bs))
   not_closed o c = not_opened o ∙ ap (λ x. cond x (outer_levels bs) (cond (ends_operand kind) (0 ∷ bs) (cond (is_symbol symbol.Bang kind) ((b + 1) ∷ bs) (b ∷ bs)))) c
 
-  ended_levels : opens_bracket kind ≡ false → closes_bracket kind ≡ false → ends_operand kind ≡ true → levels_behind (b ∷ bs) kind ≡ 0 ∷ bs
+  pub ended_levels : opens_bracket kind ≡ false → closes_bracket kind ≡ false → ends_operand kind ≡ true → levels_behind (b ∷ bs) kind ≡ 0 ∷ bs
   ended_levels o c e = not_closed o c ∙ ap (λ x. cond x (0 ∷ bs) (cond (is_symbol symbol.Bang kind) ((b + 1) ∷ bs) (b ∷ bs))) e
 
-  not_ended : opens_bracket kind ≡ false → closes_bracket kind ≡ false → ends_operand kind ≡ false
+  pub not_ended : opens_bracket kind ≡ false → closes_bracket kind ≡ false → ends_operand kind ≡ false
       → levels_behind (b ∷ bs) kind ≡ cond (is_symbol symbol.Bang kind) ((b + 1) ∷ bs) (b ∷ bs)
   not_ended o c e = not_closed o c ∙ ap (λ x. cond x (0 ∷ bs) (cond (is_symbol symbol.Bang kind) ((b + 1) ∷ bs) (b ∷ bs))) e
 

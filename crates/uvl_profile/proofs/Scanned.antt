@@ -81,14 +81,17 @@ deepens_no_mark token.Indent d = cc
 deepens_no_mark token.Dedent d = cc
 deepens_no_mark _ d = refl
 
+-- behind a bracket or `!` the nesting is one more
+pub deepened : (before : List Token) (t : Token) → deepens t.kind ≡ true → depth_of (levels_of (t ∷ before)) ≡ depth_of (levels_of before) + 1
+deepened before t d =
+    ap (λ m. depth_of (cond m (0 ∷ []) (levels_behind (levels_of before) t.kind))) (deepens_no_mark t.kind d)
+    ∙ deepens_levels (levels_of before) t.kind (sort_of t.kind) (some_level before) d
+
 pub nested_there : (n : Nesting) (before : List Token) (t : Token) → levels_kept n ≡ levels_of before
     → n.depth ≡ n.inside + depth_around (reverse n.around.items) → deepens t.kind ≡ true → (n.depth == 128) ≡ is_nested_too_deep before t
 nested_there n before t levels counted d =
     let now : n.depth ≡ depth_of (levels_of before) = counted ∙ ap depth_of levels in
-    let more = deepens_levels (levels_of before) t.kind (sort_of t.kind) (some_level before) d in
-    let behind : depth_of (levels_of (t ∷ before)) ≡ depth_of (levels_of before) + 1 =
-    ap (λ m. depth_of (cond m (0 ∷ []) (levels_behind (levels_of before) t.kind))) (deepens_no_mark t.kind d) ∙ more in
-    same_test n.depth (nesting (line_of (t ∷ before))) (sym (nesting_is (t ∷ before)) ∙ behind ∙ ap (λ k. k + 1) (sym now))
+    same_test n.depth (nesting (line_of (t ∷ before))) (sym (nesting_is (t ∷ before)) ∙ deepened before t d ∙ ap (λ k. k + 1) (sym now))
     ∙ ap (λ b. b && nesting (line_of (t ∷ before)) == 129) (sym d)
   where
     same_test : (m k : ℕ) → k ≡ m + 1 → (m == 128) ≡ (k == 129)
