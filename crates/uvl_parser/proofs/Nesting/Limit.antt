@@ -8,15 +8,15 @@ use Rattle.std.proofs.Math.Seq.{take-append_seam}
 use Rattle.uvl_base.specs.declared.fault.FaultKind.TheVariants.{TooDeep}
 use Rattle.uvl_lexer.specs.declared.token.Token.{Token}
 use Rattle.uvl_lexer.specs.declared.token.TokenKind.{TokenKind}
-use Rattle.uvl_parser.specs.Named.Lines.{is_line_mark, line_of}
-use Rattle.uvl_parser.specs.Named.Nesting.{deepens, nesting}
-use Rattle.uvl_parser.specs.Named.Depth.{depth_of}
-use Rattle.uvl_parser.specs.Named.Scan.{outer_levels, levels_behind, levels_of}
-use Rattle.uvl_parser.specs.Named.Met.{is_nested_too_deep}
+use Rattle.uvl_profile.specs.Lines.{is_line_mark, line_of}
+use Rattle.uvl_profile.specs.Nesting.{deepens, nesting}
+use Rattle.uvl_profile.specs.Depth.{depth_of}
+use Rattle.uvl_profile.specs.Scan.{outer_levels, levels_behind, levels_of}
+use Rattle.uvl_profile.specs.Met.{is_nested_too_deep}
 use Rattle.uvl_parser.specs.Named.{in_front, By_tokens, Nested, NoneNamed}
-use Rattle.uvl_parser.proofs.Sorts.{Sort, Opening, Closing, Ending, Negating, Plain, sort_of}
-use Rattle.uvl_parser.proofs.Levels.{closed_levels, ended_levels, not_ended, nesting_is, Some_level, some_level}
-use Rattle.uvl_parser.proofs.Scanned.{deepened}
+use Rattle.uvl_profile.proofs.Sorts.{Sort, Opening, Closing, Ending, Negating, Plain, sort_of}
+use Rattle.uvl_profile.proofs.Levels.{closed_levels, ended_levels, not_ended, nesting_is, Some_level, some_level}
+use Rattle.uvl_profile.proofs.Scanned.{deepened}
 use Rattle.uvl_parser.proofs.Walking.{Clear}
 use Rattle.uvl_parser.proofs.Shallow.{token_behind}
 

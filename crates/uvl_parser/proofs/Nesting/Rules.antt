@@ -20,8 +20,8 @@ use Rattle.uvl_parser.specs.Shapes.{Spelling}
 use Rattle.uvl_parser.specs.Refs.{SpellsDotName, Dot_name, SpellsRef}
 use Rattle.uvl_parser.specs.Refs as refs
 use Rattle.uvl_parser.specs.Expressions.{Operators, iff_operator, implies_operator, or_operator, and_operator, comparison_operator, sum_operator, product_operator, Grouped, Alone, Joined, Connected, SpellsPrimary, Parentheses, Literal, Negative, Sum, Reference, SpellsSum, SpellsComparison, Compared, Not_compared, Opposite, Comparison, OperandWithin, SpellsExpr}
-use Rattle.uvl_parser.specs.Named.Depth.{depth_around, depth_of}
-use Rattle.uvl_parser.specs.Named.Scan.{levels_of}
+use Rattle.uvl_profile.specs.Depth.{depth_around, depth_of}
+use Rattle.uvl_profile.specs.Scan.{levels_of}
 use Rattle.uvl_parser.proofs.Walking.{walk, walk_append, Clear, clear_front, clear_back}
 use Rattle.uvl_parser.proofs.Nesting.Tokens.{levels_after, levels_at, Inside, IsPlain, plain_name, plain_number, behind_plain, behind_symbol}
 use Rattle.uvl_parser.proofs.Nesting.Limit.{over, not_over}

@@ -9,8 +9,8 @@ use Rattle.uvl_lexer.specs.declared.token.Symbol.{Symbol}
 use Rattle.uvl_ast.specs.Depth.{greatest}
 use Rattle.uvl_parser.specs.Tokens.{IsSymbol}
 use Rattle.uvl_parser.specs.Shapes.{Spelling, Repeated, None_more, One_more, OneOrMore, First, BehindComma, Comma, Separated, Nothing, Parts}
-use Rattle.uvl_parser.specs.Named.Depth.{depth_around, depth_of}
-use Rattle.uvl_parser.specs.Named.Scan.{levels_of}
+use Rattle.uvl_profile.specs.Depth.{depth_around, depth_of}
+use Rattle.uvl_profile.specs.Scan.{levels_of}
 use Rattle.uvl_parser.proofs.Walking.{walk, walk_append, Clear, clear_front, clear_back}
 use Rattle.uvl_parser.proofs.Nesting.Tokens.{levels_after, levels_at, Inside, behind_comma}
 use Rattle.uvl_parser.proofs.Nesting.Limit.{over, not_over}

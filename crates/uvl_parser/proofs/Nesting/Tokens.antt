@@ -8,8 +8,8 @@ use Rattle.uvl_lexer.specs.declared.token.Word.{Word}
 use Rattle.uvl_lexer.specs.declared.token.Symbol.{Symbol}
 use Rattle.uvl_lexer.specs.declared.token.Symbol.TheVariants as symbol
 use Rattle.uvl_parser.specs.Tokens.{IsWord, IsSymbol, name_of, number_of, text_of}
-use Rattle.uvl_parser.specs.Named.Lines.{is_line_mark}
-use Rattle.uvl_parser.specs.Named.Scan.{levels_behind, levels_of}
+use Rattle.uvl_profile.specs.Lines.{is_line_mark}
+use Rattle.uvl_profile.specs.Scan.{levels_behind, levels_of}
 
 -- ---- one token
 

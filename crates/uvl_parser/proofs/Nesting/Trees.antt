@@ -21,9 +21,9 @@ use Rattle.uvl_parser.specs.Shapes.{Spelling, Separated, Body, No_body, Indented
 use Rattle.uvl_parser.specs.Expressions.{SpellsExpr}
 use Rattle.uvl_parser.specs.Braces.{attributes_of, rules_of, SpellsEntry, Attribute_entry, Constraint, Constraints, SpellsBraces, No_braces, Entries}
 use Rattle.uvl_parser.specs.Features.{SpellsBoolean, Not_said, Said, SpellsGroup, Members, SpellsFeature, Line, FeatureWithin}
-use Rattle.uvl_parser.specs.Named.Lines.{is_line_mark}
-use Rattle.uvl_parser.specs.Named.Depth.{depth_around}
-use Rattle.uvl_parser.specs.Named.Scan.{levels_of}
+use Rattle.uvl_profile.specs.Lines.{is_line_mark}
+use Rattle.uvl_profile.specs.Depth.{depth_around}
+use Rattle.uvl_profile.specs.Scan.{levels_of}
 use Rattle.uvl_parser.proofs.Walking.{walk, walk_append, clear_front, clear_back}
 use Rattle.uvl_parser.proofs.Nesting.Tokens.{line_levels, Inside, behind_word}
 use Rattle.uvl_parser.proofs.Nesting.Limit.{over}

@@ -13,7 +13,7 @@ use Rattle.uvl_ast.specs.Depth.{greatest}
 use Rattle.uvl_ast.specs.Nesting.{value_nesting, attribute_nesting, nesting_of, nesting_of_attribute}
 use Rattle.uvl_parser.specs.Shapes.{Spelling}
 use Rattle.uvl_parser.specs.Values.{SpellsAttribute, Bare, Valued, Yes, No, Number, Negative, Words, Attributes, Vector, ValueWithin, SpellsPlain}
-use Rattle.uvl_parser.specs.Named.Depth.{depth_around}
+use Rattle.uvl_profile.specs.Depth.{depth_around}
 use Rattle.uvl_parser.proofs.Nesting.Tokens.{Inside, plain_name, plain_number, plain_text, behind_plain, behind_symbol, behind_word}
 use Rattle.uvl_parser.proofs.Nesting.Shapes.{Leads, separated_leads, bracketed, greatest_within}
 
