@@ -1,5 +1,6 @@
 //! The first named fault of a text's tokens, by rows and at the limits.
 use crate::named::{Candidate, first_named};
+use crate::tests::texts::{FRONT, chain, joined};
 use std::alloc::Global;
 use std::process::Abort;
 use std::test::Fail;
@@ -98,20 +99,6 @@ fn elsewhere_the_same_words_are_not_named(rt: HostRuntime) -> Result<(), Fail> {
     Ok(())
 }
 
-/// Texts one behind the other, each so many times.
-fn joined(alloc: Global, parts: &[(&str, usize)]) -> Result<String, Fail> {
-    let mut text = String::new(alloc);
-    for (part, times) in parts {
-        for _ in 0..*times {
-            text.push_str(part)?;
-        }
-    }
-    Ok(text)
-}
-
-/// In front of a rule in line 4.
-const FRONT: (&str, usize) = ("features\n\tA\nconstraints\n\t", 1);
-
 #[test]
 fn brackets_and_opposites_nest_128_deep(rt: HostRuntime) -> Result<(), Fail> {
     let alloc = rt.alloc();
@@ -154,26 +141,6 @@ fn brackets_and_opposites_nest_128_deep(rt: HostRuntime) -> Result<(), Fail> {
         is_named(alloc, &rt, joined(alloc, parts)?.as_str(), at)?;
     }
     Ok(())
-}
-
-/// A chain of features, the root at depth 1, and what the last line begins with.
-fn chain(alloc: Global, depth: usize, word: &str) -> Result<String, Fail> {
-    let mut text = String::from_str(alloc, "features\n")?;
-    for above in 0..depth {
-        for _ in 0..above {
-            text.push_str("\t\t")?;
-        }
-        text.push_str("\t")?;
-        if above == depth - 1 {
-            text.push_str(word)?;
-        }
-        text.push_str("F\n\t\t")?;
-        for _ in 0..above {
-            text.push_str("\t\t")?;
-        }
-        text.push_str("or\n")?;
-    }
-    Ok(text)
 }
 
 #[test]
