@@ -3,6 +3,7 @@
 use crate::{ParseFault, parse};
 use std::alloc::Global;
 use std::fmt::Write;
+use std::process::Abort;
 use std::test::Fail;
 use uvl_base::Place;
 use uvl_lexer::lex;
@@ -129,15 +130,26 @@ const ACCEPTED: [(&str, &str, (u32, u32)); 9] = [
     ),
 ];
 
-#[test]
-fn each_construct_is_read_into_its_tree(rt: HostRuntime) -> Result<(), Fail> {
-    let alloc = rt.alloc();
-    for (text, tree, (line, column)) in ACCEPTED {
+fn are_accepted(
+    alloc: Global,
+    rt: &impl Abort,
+    rows: &[(&str, &str, (u32, u32))],
+) -> Result<(), Fail> {
+    for (text, tree, (line, column)) in rows {
         let (found, finish) = answer(alloc, text)?;
-        assert_eq!(rt; found.as_str(), tree, "{text:?}");
-        assert_eq!(rt; finish, Some(Place { line, column }), "{text:?}");
+        assert_eq!(rt; found.as_str(), *tree, "{text:?}");
+        let place = Place {
+            line: *line,
+            column: *column,
+        };
+        assert_eq!(rt; finish, Some(place), "{text:?}");
     }
     Ok(())
+}
+
+#[test]
+fn each_construct_is_read_into_its_tree(rt: HostRuntime) -> Result<(), Fail> {
+    are_accepted(rt.alloc(), &rt, &ACCEPTED)
 }
 
 /// Texts that are refused, with their faults.
@@ -199,21 +211,38 @@ const LARGE: [(&[(&str, usize)], &str); 3] = [
     ),
 ];
 
+fn is_refused(alloc: Global, rt: &impl Abort, text: &str, fault: &str) -> Result<(), Fail> {
+    let (found, finish) = answer(alloc, text)?;
+    assert_eq!(rt; found.as_str(), fault, "{text:?}");
+    assert_eq!(rt; finish, None, "{text:?}");
+    Ok(())
+}
+
+fn are_refused(alloc: Global, rt: &impl Abort, rows: &[(&str, &str)]) -> Result<(), Fail> {
+    for (text, fault) in rows {
+        is_refused(alloc, rt, text, fault)?;
+    }
+    Ok(())
+}
+
+fn are_refused_when_joined(
+    alloc: Global,
+    rt: &impl Abort,
+    rows: &[(&[(&str, usize)], &str)],
+) -> Result<(), Fail> {
+    for (parts, fault) in rows {
+        is_refused(alloc, rt, joined(alloc, parts)?.as_str(), fault)?;
+    }
+    Ok(())
+}
+
 #[test]
 fn each_refusal_has_its_place_and_its_kind(rt: HostRuntime) -> Result<(), Fail> {
     let alloc = rt.alloc();
-    for (text, fault) in REFUSED {
-        let (found, finish) = answer(alloc, text)?;
-        assert_eq!(rt; found.as_str(), fault, "{text:?}");
-        assert_eq!(rt; finish, None, "{text:?}");
-    }
-    for (parts, fault) in LARGE {
-        let (found, _) = answer(alloc, joined(alloc, parts)?.as_str())?;
-        assert_eq!(rt; found.as_str(), fault);
-    }
-    let (found, _) = answer(alloc, chain(alloc, 65, "")?.as_str())?;
-    assert_eq!(rt; found.as_str(), "130:130 TooDeep");
-    Ok(())
+    are_refused(alloc, &rt, &REFUSED)?;
+    are_refused_when_joined(alloc, &rt, &LARGE)?;
+    let deep = chain(alloc, 65, "")?;
+    is_refused(alloc, &rt, deep.as_str(), "130:130 TooDeep")
 }
 
 const THIN_MODEL: &str = "features\n\tCar\n\t\tmandatory\n\t\t\tBody\n\t\toptional\n\t\t\tRadio\n";
