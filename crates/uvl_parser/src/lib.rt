@@ -22,3 +22,6 @@ mod values;
 pub use fault::ParseFault;
 pub use law::{every_token_list_is_parsed_once, every_token_list_spells_one_file};
 pub use parser::parse;
+
+#[cfg(test)]
+mod tests;

@@ -2,79 +2,11 @@
 //! and how many tokens are left behind it or where it stops.
 use crate::expression::expression;
 use crate::reading::Stop;
-use sqlite_items::Boxed;
-use std::alloc::{AllocError, Global};
-use std::fmt::Write;
+use crate::tests::printing::{put, put_expression};
+use std::alloc::Global;
 use std::test::Fail;
-use uvl_ast::{BinOp, Expr, Ref};
 use uvl_base::Place;
 use uvl_lexer::lex;
-
-fn sign_of(operator: BinOp) -> &'static str {
-    match operator {
-        BinOp::And => "&",
-        BinOp::Or => "|",
-        BinOp::Implies => "=>",
-        BinOp::Iff => "<=>",
-        BinOp::Equal => "==",
-        BinOp::Differs => "!=",
-        BinOp::Less => "<",
-        BinOp::AtMost => "<=",
-        BinOp::Greater => ">",
-        BinOp::AtLeast => ">=",
-        BinOp::Plus => "+",
-        BinOp::Minus => "-",
-        BinOp::Times => "*",
-    }
-}
-
-/// A node and the column in which it stands.
-fn put(into: &mut String, node: &str, place: Place) -> Result<(), AllocError> {
-    let column = place.column;
-    write!(into, "{node}@{column}")
-}
-
-fn put_reference(into: &mut String, reference: &Ref) -> Result<(), AllocError> {
-    let mut is_first = true;
-    for name in reference.parts.as_slice() {
-        if !is_first {
-            into.push('.')?;
-        }
-        into.push_str(name.text())?;
-        is_first = false;
-    }
-    put(into, "", reference.place)
-}
-
-/// The tree with parentheses round each operator and its operands.
-fn put_expression(into: &mut String, expr: &Expr) -> Result<(), AllocError> {
-    match expr {
-        Expr::Number(value, place) => {
-            let millionths = value.millionths();
-            write!(into, "{millionths}")?;
-            put(into, "", *place)
-        }
-        Expr::Name(reference) => put_reference(into, reference),
-        Expr::Sum(key, place) => {
-            let key = key.text();
-            write!(into, "sum {key}")?;
-            put(into, "", *place)
-        }
-        Expr::Not(inner, place) => {
-            put(into, "!", *place)?;
-            put_expression(into, inner.get())
-        }
-        Expr::Binary(operator, left, right, place) => {
-            into.push('(')?;
-            put_expression(into, left.get())?;
-            into.push(' ')?;
-            put(into, sign_of(*operator), *place)?;
-            into.push(' ')?;
-            put_expression(into, right.get())?;
-            into.push(')')
-        }
-    }
-}
 
 /// What is read from the front of a text, and how many tokens are left.
 fn read(alloc: Global, text: &str) -> Result<(String, usize), Fail> {
