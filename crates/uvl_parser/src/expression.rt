@@ -10,8 +10,9 @@
 //!     mul  = prim ("*" prim)*
 //!     prim = "(" expr ")" | "-"? number | "sum" "(" name ")" | ref
 //!
-//! Each function calls itself again only behind a `(` or a `!`, so recursion goes as deep as these
-//! nest, whatever the length of a chain of operators.
+//! One loop reads a chain of operators, of whatever levels they are. A function calls itself again only
+//! behind a `(` or a `!`, or behind an operator at a level that binds more. So recursion goes as deep as
+//! `(` and `!` nest, times the number of levels, whatever the length of a chain of operators.
 ghost use Rattle.std.specs.Prelude.{◌≡◌, ◌<◌, Ok, Err, IfOk, length};
 ghost use Rattle.uvl_parser.specs.Reading.{Gives};
 ghost use Rattle.uvl_parser.specs.Readers.Expressions as spec;
@@ -43,20 +44,25 @@ pub(crate) fn expression(alloc: Global, tokens: &[Token]) -> Result<(Expr, &[Tok
     Ok((whole.into_inner(), rest))
 }
 
-/// Reads operands of a level with its operators between them. They group to the left, and each
-/// operator stands where its symbol stands.
+/// Reads operands of a level with its operators between them, and of those levels that bind more,
+/// by one loop. They group to the left, and each operator stands where its symbol stands.
+///
+/// `most` is the level of the last operator read here. None that binds more is looked for behind it:
+/// those were read with its right operand.
 #[cycle(expression)]
-fn grouped(alloc: Global, level: Level, tokens: &[Token]) -> Result<(Boxed<Expr>, &[Token]), Stop>
-    ensures reads { Gives (λ r. (r.0, r.1.now)) result (spec.of_level level tokens.now) }
+fn grouped(alloc: Global, least: Level, tokens: &[Token]) -> Result<(Boxed<Expr>, &[Token]), Stop>
+    ensures reads { Gives (λ r. (r.0, r.1.now)) result (spec.of_level least tokens.now) }
     ensures shorter { IfOk result (λ r. length r.1.now < length tokens.now) }
 {
-    let (mut left, mut rest) = part(alloc, level, tokens)?;
+    let mut most = least.tightest();
+    let (mut left, mut rest) = part(alloc, most, tokens)?;
     for _turn in 0..rest.len() {
-        let Some((operator, place, behind)) = split_operator(level, rest) else {
+        let Some((operator, level, place, behind)) = split_operator(least, most, rest) else {
             return Ok((left, rest));
         };
         let (right, after) = part(alloc, level, behind)?;
         left = binary(alloc, operator, left, right, place)?;
+        most = level;
         rest = after;
     }
     Ok((left, rest))

@@ -5,7 +5,7 @@ ghost use Rattle.std.specs.Result.{result_ok};
 ghost use Rattle.uvl_lexer.specs.declared.token.TokenKind.TheVariants as token;
 ghost use Rattle.uvl_parser.specs.Expressions.{comparison_operator};
 ghost use Rattle.uvl_parser.specs.Reading.{accept};
-ghost use Rattle.uvl_parser.specs.Readers.Expressions.{operators_of};
+ghost use Rattle.uvl_parser.specs.Readers.Operators.{levels, operator_on, Splits};
 
 use uvl_ast::BinOp;
 use uvl_base::Place;
@@ -29,36 +29,42 @@ pub(crate) enum Level {
     Product,
 }
 
-/// The operator of a level that a symbol is, if it is one.
-fn operator_of_symbol(level: Level, symbol: Symbol) -> Option<BinOp>
-    ensures { result ≡ operators_of level (token.Symbol symbol) }
+impl Level {
+    ghost use Rattle.std.specs.Prelude.{◌≡◌, ◌↔◌, IsTrue};
+    ghost use Rattle.uvl_parser.specs.Readers.Operators.{tightest, IsBetween};
+
+    /// The level of the same kind that binds most: `And` for truths, `Product` for numbers.
+    pub(crate) fn tightest(self) -> Level
+        ensures { result ≡ tightest self }
+    {
+        match self {
+            Level::Sum | Level::Product => Level::Product,
+            _ => Level::And,
+        }
+    }
+
+    /// Whether operators of this level bind no less than those of `least`, and no more than those of
+    /// `most`.
+    fn is_between(self, least: Level, most: Level) -> bool
+        ensures { IsTrue result ↔ IsBetween least most self }
+    {
+        least as u8 <= self as u8 && self as u8 <= most as u8
+    }
+}
+
+/// The operator that a symbol is, and its level, if it is one that may follow another.
+fn operator_of_symbol(symbol: Symbol) -> Option<(BinOp, Level)>
+    ensures { result ≡ operator_on levels (token.Symbol symbol) }
 {
-    match level {
-        Level::Iff => match symbol {
-            Symbol::Iff => Some(BinOp::Iff),
-            _ => None,
-        },
-        Level::Implies => match symbol {
-            Symbol::Implies => Some(BinOp::Implies),
-            _ => None,
-        },
-        Level::Or => match symbol {
-            Symbol::Bar => Some(BinOp::Or),
-            _ => None,
-        },
-        Level::And => match symbol {
-            Symbol::Amp => Some(BinOp::And),
-            _ => None,
-        },
-        Level::Sum => match symbol {
-            Symbol::Plus => Some(BinOp::Plus),
-            Symbol::Minus => Some(BinOp::Minus),
-            _ => None,
-        },
-        Level::Product => match symbol {
-            Symbol::Star => Some(BinOp::Times),
-            _ => None,
-        },
+    match symbol {
+        Symbol::Iff => Some((BinOp::Iff, Level::Iff)),
+        Symbol::Implies => Some((BinOp::Implies, Level::Implies)),
+        Symbol::Bar => Some((BinOp::Or, Level::Or)),
+        Symbol::Amp => Some((BinOp::And, Level::And)),
+        Symbol::Plus => Some((BinOp::Plus, Level::Sum)),
+        Symbol::Minus => Some((BinOp::Minus, Level::Sum)),
+        Symbol::Star => Some((BinOp::Times, Level::Product)),
+        _ => None,
     }
 }
 
@@ -77,11 +83,11 @@ fn comparison_of_symbol(symbol: Symbol) -> Option<BinOp>
     }
 }
 
-fn operator_of(level: Level, kind: &TokenKind) -> Option<BinOp>
-    ensures { result ≡ operators_of level kind.now }
+fn operator_of(kind: &TokenKind) -> Option<(BinOp, Level)>
+    ensures { result ≡ operator_on levels kind.now }
 {
     match kind {
-        TokenKind::Symbol(symbol) => operator_of_symbol(level, *symbol),
+        TokenKind::Symbol(symbol) => operator_of_symbol(*symbol),
         _ => None,
     }
 }
@@ -95,14 +101,22 @@ fn comparison_of(kind: &TokenKind) -> Option<BinOp>
     }
 }
 
-/// The operator of a level at the front, where it stands, and what is behind it.
-#[tactic(auto, unfolding(crate::specs::Reading::accept))]
-pub(crate) fn split_operator(level: Level, tokens: &[Token]) -> Option<(BinOp, Place, &[Token])>
-    ensures { option_map (λ o. ((o.0, o.1), o.2.now)) result ≡ result_ok (accept (operators_of level) tokens.now) }
+/// The operator of a level from `least` to `most` at the front, its level, where it stands, and what
+/// is behind it.
+pub(crate) fn split_operator(
+    least: Level,
+    most: Level,
+    tokens: &[Token],
+) -> Option<(BinOp, Level, Place, &[Token])>
+    ensures { Splits least most tokens.now (option_map (λ o. (o.0, o.1, o.2, o.3.now)) result) }
 {
     let (first, rest) = tokens.split_first()?;
-    let operator = operator_of(level, &first.kind)?;
-    Some((operator, first.place, rest))
+    let (operator, level) = operator_of(&first.kind)?;
+    if level.is_between(least, most) {
+        Some((operator, level, first.place, rest))
+    } else {
+        None
+    }
 }
 
 /// The comparison at the front, where it stands, and what is behind it.

@@ -1,5 +1,5 @@
 -- Expressions: the steps of reading them, each in the words of the readers that need no depth.
-use Rattle.std.specs.Prelude.{◌≡◌, ℕ, zero, suc, ◌+◌, ◌-◌, ◌<◌, ◌≤◌, Bool, true, false, cond, List, [], ◌∷◌, ◌++◌, length, Result, Ok, Err, IfOk, Option, Some, None}
+use Rattle.std.specs.Prelude.{◌≡◌, ℕ, zero, suc, ◌<◌, ◌≤◌, Bool, true, false, cond, List, [], ◌∷◌, ◌++◌, length, Result, Ok, Err, IfOk, Option, Some, None}
 use Rattle.std.specs.Borrow.{Bor}
 use Rattle.uvl_parser.specs.declared.reading.Stop.{Stop}
 use Rattle.std.specs.Result.{result_ok}
@@ -21,9 +21,9 @@ use Rattle.uvl_parser.specs.Openings.{opening_of}
 use Rattle.uvl_parser.specs.Tests.{Test, is_symbol, begins, is_there}
 use Rattle.uvl_parser.specs.Shapes.{Spelling}
 use Rattle.uvl_parser.specs.Expressions.{Operators, implies_operator, or_operator, and_operator, comparison_operator, sum_operator, product_operator, Grouped, OperandWithin}
-use Rattle.uvl_parser.specs.Reading.{Read, Reader, ◌>>=◌, done, bind, one, accept, accepted, choose, repeat, many, closed, Gives}
+use Rattle.uvl_parser.specs.Reading.{Read, Reader, ◌>>=◌, done, bind, one, accept, accepted, choose, repeat, closed, Gives}
 use Rattle.uvl_parser.specs.Readers.Refs.{reference}
-use Rattle.uvl_parser.specs.Readers.Expressions.{Operation, is_operator, operation, join, joined, grouped, parenthesized, negative, total, literal, named, primary_of, compared, opposite, operand_of, operand_within, expression_within, primary_within, operators_of, part_within, level_within, comparison_within, of_level, part_of, comparison, operand, primary, expression}
+use Rattle.uvl_parser.specs.Readers.Expressions.{Operation, is_operator, operation, join, joined, parenthesized, negative, total, literal, named, primary_of, compared, opposite, operand_of, operand_within, expression_within, primary_within, part_within, level_within, comparison_within, of_level, part_of, comparison, operand, primary, expression}
 use Rattle.uvl_parser.proofs.Readers.{Good, Outcome, settle}
 use Rattle.uvl_parser.proofs.Parts.Expressions.Spelled.{NamedParts, negative_good, total_good, named_good, named_has_token, PrimaryWithin, grouped_good, operand_within_good, primary_within_good, implies_has, or_has, and_has, sum_has, product_has}
 
@@ -71,7 +71,7 @@ part_good level.Sum d = grouped_good product_has (primary_within_good d)
 part_good level.Product d = primary_within_good d
 
 -- a deeper reader reads a part as the reader without a depth does
-part_settled : (l : Level) (ts : List Token) (m : ℕ) → length ts < m → part_within l m ts ≡ part_of l ts
+pub part_settled : (l : Level) (ts : List Token) (m : ℕ) → length ts < m → part_within l m ts ≡ part_of l ts
 unfolding part_of closed
 part_settled l ts m h = settle (part_within l) (PartWithin l) (part_good l) ts (suc (length ts)) m (omega arith) (omega arith)
 
@@ -124,20 +124,15 @@ abbrev pub behind_left : Expr → Read (List Operation) → Read Expr
 behind_left left r = r >>= λ z. Ok (joined left z.0, z.1)
 
 module _ (operators : Operators) (p : Reader Expr) where
-  abbrev Turns : ℕ → Reader (List Operation)
+  abbrev pub Turns : ℕ → Reader (List Operation)
   Turns n = repeat n (is_operator operators) (operation operators p)
 
-  turns_end : (left : Expr) (n : ℕ) (ts : List Token) → begins (is_operator operators) ts ≡ false → behind_left left (Turns n ts) ≡ Ok (left, ts)
+  pub turns_end : (left : Expr) (n : ℕ) (ts : List Token) → begins (is_operator operators) ts ≡ false → behind_left left (Turns n ts) ≡ Ok (left, ts)
   unfolding repeat choose bind done
   turns_end left zero ts e = refl
   turns_end left (suc n) [] e = refl
   turns_end left (suc n) (t ∷ ts) e =
       ap (λ b. behind_left left (cond b (bind (operation operators p) (λ a. bind (Turns n) (λ items. done (a ∷ items))) (t ∷ ts)) (Ok ([], t ∷ ts)))) e
-
-  turns_out : (left : Expr) (n : ℕ) (ts : List Token) → n ≡ 0 → behind_left left (Turns n ts) ≡ Ok (left, ts)
-  unfolding repeat
-  turns_out left zero ts e = refl
-  turns_out left (suc n) ts e = absurd (omega arith)
 
   turn_open : (left : Expr) (n : ℕ) (ts : List Token) → begins (is_operator operators) ts ≡ true
       → behind_left left (Turns (suc n) ts) ≡ behind_left left (operation operators p ts >>= λ z. Turns n z.1 >>= λ y. Ok (z.0 ∷ y.0, y.1))
@@ -152,7 +147,7 @@ module _ (operators : Operators) (p : Reader Expr) where
   turn_joins left o (Err left_over) = refl
 
   -- a turn joins an operand
-  turn_reads : (left : Expr) (n : ℕ) (ts : List Token) (o : BinOp × Place) (behind : List Token) (right : Expr) (after : List Token)
+  pub turn_reads : (left : Expr) (n : ℕ) (ts : List Token) (o : BinOp × Place) (behind : List Token) (right : Expr) (after : List Token)
       → accept operators ts ≡ Ok (o, behind) → p behind ≡ Ok (right, after)
       → behind_left left (Turns (suc n) ts) ≡ behind_left (expr.Binary o.0 left right o.1) (Turns n after)
   turn_reads left n ts o behind right after e reads =
@@ -162,79 +157,12 @@ module _ (operators : Operators) (p : Reader Expr) where
       ∙ turn_joins left (o.0, o.1, right) (Turns n after)
 
   -- or stops
-  turn_stops : (left : Expr) (n : ℕ) (ts : List Token) (o : BinOp × Place) (behind : List Token) (left_over : ℕ)
+  pub turn_stops : (left : Expr) (n : ℕ) (ts : List Token) (o : BinOp × Place) (behind : List Token) (left_over : ℕ)
       → accept operators ts ≡ Ok (o, behind) → p behind ≡ Err left_over → behind_left left (Turns (suc n) ts) ≡ Err left_over
   turn_stops left n ts o behind left_over e stops =
       turn_open left n ts (operator_begins operators ts o behind e)
       ∙ ap (λ r. behind_left left (r >>= λ z. Turns n z.1 >>= λ y. Ok (z.0 ∷ y.0, y.1)))
       (operation_reads operators p ts o behind e ∙ ap (λ r. r >>= λ y. Ok ((o.0, o.1, y.0), y.1)) stops)
-
--- ---- a level
-
--- What is left of reading a level of some tokens: what is joined so far, and the turns of the rest.
-pub record Goes (l : Level) (tokens : List Token) (left : Expr) (turns : ℕ) (rest : List Token) : Type 0 where
-  pub whole : behind_left left (repeat turns (is_operator (operators_of l)) (operation (operators_of l) (part_within l (suc (length tokens)))) rest) ≡ of_level l tokens
-  pub shorter : length rest < length tokens
-
-pub level_begins : (l : Level) (tokens : List Token) (left : Expr) (rest : List Token) → part_of l tokens ≡ Ok (left, rest)
-    → length rest < length tokens → (n : ℕ) → n ≡ length rest → Goes l tokens left n rest
-unfolding of_level part_of closed grouped many bind done
-level_begins l tokens left rest e h n all = record {
-  whole =
-      ap (λ z. behind_left left (repeat z (is_operator (operators_of l)) (operation (operators_of l) (part_within l (suc (length tokens)))) rest)) all
-      ∙ ap (λ r. r >>= λ z. many (is_operator (operators_of l)) (operation (operators_of l) (part_within l (suc (length tokens)))) z.1 >>= λ y. Ok (joined z.0 y.0, y.1)) (sym e);
-  shorter = h;
-}
-
-pub level_fails : (l : Level) (tokens : List Token) (left : ℕ) → part_of l tokens ≡ Err left → of_level l tokens ≡ Err left
-unfolding of_level part_of closed grouped many bind done
-level_fails l tokens left e =
-    ap (λ r. r >>= λ z. many (is_operator (operators_of l)) (operation (operators_of l) (part_within l (suc (length tokens)))) z.1 >>= λ y. Ok (joined z.0 y.0, y.1)) e
-
-pub level_ends : (l : Level) (tokens : List Token) (left : Expr) (turns : ℕ) (rest : List Token) → Goes l tokens left turns rest
-    → None ≡ result_ok (accept (operators_of l) rest) → of_level l tokens ≡ Ok (left, rest)
-level_ends l tokens left turns rest goes e =
-    sym goes.whole ∙ turns_end (operators_of l) (part_within l (suc (length tokens))) left turns rest (no_operator (operators_of l) rest e)
-
-pub level_over : (l : Level) (tokens : List Token) (left : Expr) (end turn : ℕ) (rest : List Token) → Goes l tokens left (end - turn) rest
-    → end ≤ turn → of_level l tokens ≡ Ok (left, rest)
-level_over l tokens left end turn rest goes over =
-    let none : end - turn ≡ 0 = omega arith in
-    sym goes.whole ∙ turns_out (operators_of l) (part_within l (suc (length tokens))) left (end - turn) rest none
-
--- a turn takes an operator and its operand
-pub level_goes : (l : Level) (tokens : List Token) (left later : Expr) (end turn : ℕ) (rest : List Token) (o : BinOp) (place : Place) (behind : List Token)
-    (right : Expr) (after : List Token) → Goes l tokens left (end - turn) rest → turn < end
-    → Some ((o, place), behind) ≡ result_ok (accept (operators_of l) rest) → part_of l behind ≡ Ok (right, after) → length after < length behind
-    → later ≡ expr.Binary o left right place → Goes l tokens later (end - (turn + 1)) after
-level_goes l tokens left later end turn rest o place behind right after goes within e reads h joins =
-    let is = some_operator (operators_of l) rest (o, place) behind e in
-    let fewer : length rest ≡ suc (length behind) = accept_takes (operators_of l) rest (o, place) behind is in
-    let inside : length behind < suc (length tokens) = omega (arith, goes.shorter) in
-    let counts : end - turn ≡ suc (end - (turn + 1)) = omega arith in
-    record {
-      whole =
-          ap (λ z. behind_left z (repeat (end - (turn + 1)) (is_operator (operators_of l)) (operation (operators_of l) (part_within l (suc (length tokens)))) after)) joins
-          ∙ sym (turn_reads (operators_of l) (part_within l (suc (length tokens))) left (end - (turn + 1)) rest (o, place) behind right after is
-          (part_settled l behind (suc (length tokens)) inside ∙ reads))
-          ∙ ap (λ z. behind_left left (repeat z (is_operator (operators_of l)) (operation (operators_of l) (part_within l (suc (length tokens)))) rest)) (sym counts)
-          ∙ goes.whole;
-      shorter = omega (arith, goes.shorter);
-    }
-
--- or stops at its operand
-pub level_stops : (l : Level) (tokens : List Token) (left : Expr) (end turn : ℕ) (rest : List Token) (o : BinOp) (place : Place) (behind : List Token)
-    (left_over : ℕ) → Goes l tokens left (end - turn) rest → turn < end
-    → Some ((o, place), behind) ≡ result_ok (accept (operators_of l) rest) → part_of l behind ≡ Err left_over → of_level l tokens ≡ Err left_over
-level_stops l tokens left end turn rest o place behind left_over goes within e stops =
-    let is = some_operator (operators_of l) rest (o, place) behind e in
-    let fewer : length rest ≡ suc (length behind) = accept_takes (operators_of l) rest (o, place) behind is in
-    let inside : length behind < suc (length tokens) = omega (arith, goes.shorter) in
-    let counts : end - turn ≡ suc (end - (turn + 1)) = omega arith in
-    sym goes.whole
-    ∙ ap (λ z. behind_left left (repeat z (is_operator (operators_of l)) (operation (operators_of l) (part_within l (suc (length tokens)))) rest)) counts
-    ∙ turn_stops (operators_of l) (part_within l (suc (length tokens))) left (end - (turn + 1)) rest (o, place) behind left_over is
-    (part_settled l behind (suc (length tokens)) inside ∙ stops)
 
 -- ---- comparisons
 
