@@ -266,7 +266,7 @@ module _ (tokens : List Token) (k : ℕ) (t : Token) (here : slice_get tokens k 
   }
 
   pub named_first : (m : Met) → met_of (in_front k tokens) t ≡ Some m → k < length tokens → ((j : ℕ) → j < k → NoneNamed tokens j)
-      → IsFirstNamed tokens (record { index = k; alive = m.alive; dead = m.dead })
+      → IsFirstNamed tokens (record { index = k; met = m })
   named_first m e within before =
       let j = judged (in_front k tokens) t m e in
       record {
@@ -294,7 +294,7 @@ module _ (tokens : List Token) where
 
   first_with : (c : Candidate) → IsFirstMet tokens c → (t : Token) → slice_get tokens c.index ≡ Some t → IsFirstNamed tokens c
   first_with c first t here =
-      named_first tokens c.index t here (record { alive = c.alive; dead = c.dead }) (first.met t here) first.within
+      named_first tokens c.index t here c.met (first.met t here) first.within
       (λ k before. nothing_named k (first.none_before k before))
 
   -- the first token at which something is met is the first that is named

@@ -161,9 +161,9 @@ module _ (tokens : List Token) where
     whole unnamed (Err left) is = has_refusal (length tokens - left) Syntax (all_stuck tokens list unnamed left is).2
 
     up_to : (c : Candidate) → IsFirstNamed tokens c → (r : Read File) → file (take (c.index + 1) tokens) ≡ r → IsParsedOnce tokens
-    up_to c first (Ok r) is = has_refusal c.index c.alive (front_read tokens list c first r.0 r.1 is)
-    up_to c first (Err zero) is = has_refusal c.index c.alive (all_taken tokens list c first is)
-    up_to c first (Err (suc zero)) is = has_refusal c.index (unwrap_or c.dead Syntax) (last_stuck tokens list c first is)
+    up_to c first (Ok r) is = has_refusal c.index c.met.alive (front_read tokens list c first r.0 r.1 is)
+    up_to c first (Err zero) is = has_refusal c.index c.met.alive (all_taken tokens list c first is)
+    up_to c first (Err (suc zero)) is = has_refusal c.index (unwrap_or c.met.dead Syntax) (last_stuck tokens list c first is)
     up_to c first (Err (suc (suc n))) is =
         let some : 2 ≤ suc (suc n) = omega arith in
         has_refusal (c.index + 1 - suc (suc n)) Syntax (front_stuck tokens list c first (suc (suc n)) some is).1

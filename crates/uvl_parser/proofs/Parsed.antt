@@ -169,7 +169,7 @@ module _ (ts : List Token) (list : IsTokenList ts) (c : Candidate) (first : IsFi
   upto_length = omega (arith, length-take (c.index + 1) ts, first.within)
 
   -- where it can stand there
-  alive_fault : ((j : ℕ) → j < c.index → Dead ts j → ⊥) → (Dead ts c.index → ⊥) → IsFaultAt ts c.index c.alive
+  alive_fault : ((j : ℕ) → j < c.index → Dead ts j → ⊥) → (Dead ts c.index → ⊥) → IsFaultAt ts c.index c.met.alive
   alive_fault before here = record {
     within = first.within;
     unnamed_before = first.none_before;
@@ -185,7 +185,7 @@ module _ (ts : List Token) (list : IsTokenList ts) (c : Candidate) (first : IsFi
       take-append-le (j + 1) upto more within ∙ same_front ts (c.index + 1) j before (omega (arith, first.within)) in
       spelled_alive (upto ++ more) f j spelled (λ others g s. dead others g (subst (λ z. Spells (z ++ others) g) front s))
 
-  pub front_read : (f : File) (rest : List Token) → file upto ≡ Ok (f, rest) → IsFaultAt ts c.index c.alive
+  pub front_read : (f : File) (rest : List Token) → file upto ≡ Ok (f, rest) → IsFaultAt ts c.index c.met.alive
   front_read f rest is =
       let o : Reads upto f rest = outcome upto (Ok (f, rest)) is in
       let joins : ts ≡ o.front ++ (rest ++ drop (c.index + 1) ts) =
@@ -195,7 +195,7 @@ module _ (ts : List Token) (list : IsTokenList ts) (c : Candidate) (first : IsFi
       alive_fault (λ j before. spelled_alive ts f j whole) (spelled_alive ts f c.index whole)
 
   -- all was read, and a file may follow
-  out_of_tokens : (left : ℕ) (o : Stops upto left) → o.rest ≡ [] → IsFaultAt ts c.index c.alive
+  out_of_tokens : (left : ℕ) (o : Stops upto left) → o.rest ≡ [] → IsFaultAt ts c.index c.met.alive
   out_of_tokens left o is =
       let whole : o.front ≡ upto = sym (o.splits ∙ ap (λ z. o.front ++ z) is ∙ append-nil o.front) in
       let spelled = subst (λ z. Spells (z ++ o.more) o.value) whole o.completed in
@@ -234,10 +234,10 @@ module _ (ts : List Token) (list : IsTokenList ts) (c : Candidate) (first : IsFi
         subst (Dead ts) k dead,
       )
 
-  pub all_taken : file upto ≡ Err 0 → IsFaultAt ts c.index c.alive
+  pub all_taken : file upto ≡ Err 0 → IsFaultAt ts c.index c.met.alive
   all_taken stuck = let o : Stops upto 0 = outcome upto (Err 0) stuck in at o o.rest refl
     where
-      at : (o : Stops upto 0) (rest : List Token) → o.rest ≡ rest → IsFaultAt ts c.index c.alive
+      at : (o : Stops upto 0) (rest : List Token) → o.rest ≡ rest → IsFaultAt ts c.index c.met.alive
       at o [] is = out_of_tokens 0 o is
       at o (t ∷ behind) is = let none : 0 ≡ suc (length behind) = o.count ∙ ap length is in absurd (omega arith)
 
@@ -248,12 +248,12 @@ module _ (ts : List Token) (list : IsTokenList ts) (c : Candidate) (first : IsFi
       at o [] is = let none : left ≡ 0 = o.count ∙ ap length is in absurd (omega arith)
       at o (t ∷ behind) is = stuck_there left o t behind is
 
-  pub last_stuck : file upto ≡ Err 1 → IsFaultAt ts c.index (unwrap_or c.dead Syntax)
+  pub last_stuck : file upto ≡ Err 1 → IsFaultAt ts c.index (unwrap_or c.met.dead Syntax)
   last_stuck stuck =
       let there = stuck_at 1 (omega arith) stuck in
       let same : c.index + 1 - 1 ≡ c.index = omega arith in
       let dead = subst (Dead ts) same there.3 in
-      dead_fault c.dead (first.dead dead) (λ j before. there.2 j (omega arith)) dead
+      dead_fault c.met.dead (first.dead dead) (λ j before. there.2 j (omega arith)) dead
 
   pub front_stuck : (left : ℕ) → 2 ≤ left → file upto ≡ Err left → (left ≤ c.index + 1) × IsFaultAt ts (c.index + 1 - left) Syntax
   front_stuck left some stuck =

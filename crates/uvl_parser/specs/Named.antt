@@ -44,5 +44,5 @@ pub record LowestNamed (tokens : List Token) (k : ℕ) (kind : FaultKind) : Type
 pub record IsFirstNamed (tokens : List Token) (c : Candidate) : Type 0 where
   pub within : c.index < length tokens
   pub none_before : (k : ℕ) → k < c.index → NoneNamed tokens k
-  pub alive : (Dead tokens c.index → ⊥) → LowestNamed tokens c.index c.alive
-  pub dead : Dead tokens c.index → MatchOption c.dead (NoneNamed tokens c.index) (LowestNamed tokens c.index)
+  pub alive : (Dead tokens c.index → ⊥) → LowestNamed tokens c.index c.met.alive
+  pub dead : Dead tokens c.index → MatchOption c.met.dead (NoneNamed tokens c.index) (LowestNamed tokens c.index)

@@ -82,10 +82,10 @@ fn refusal(alloc: Global, tokens: &[Token], candidate: Candidate) -> ParseFault
 {
     let last = candidate.index;
     match file(alloc, &tokens[..last + 1]) {
-        Ok(_) => refusal_at(tokens, last, candidate.alive),
+        Ok(_) => refusal_at(tokens, last, candidate.met.alive),
         Err(Stop::Stuck { left }) => {
             if left == 0 {
-                refusal_at(tokens, last, candidate.alive)
+                refusal_at(tokens, last, candidate.met.alive)
             } else if left == 1 {
                 refusal_at(tokens, last, dead_kind(candidate))
             } else {
@@ -109,9 +109,9 @@ fn refusal_at(tokens: &[Token], index: usize, kind: FaultKind) -> ParseFault
 
 /// What is wrong at a token with which no file begins.
 fn dead_kind(candidate: Candidate) -> FaultKind
-    ensures { result ≡ unwrap_or candidate.dead FaultKind.Syntax }
+    ensures { result ≡ unwrap_or candidate.met.dead FaultKind.Syntax }
 {
-    match candidate.dead {
+    match candidate.met.dead {
         Some(kind) => kind,
         None => FaultKind::Syntax,
     }

@@ -24,7 +24,7 @@ module _ (tokens : List Token) (k : ℕ) (t : Token) (here : slice_get tokens k 
 
   -- what is met at the token there
   pub met_at_one : (m : Met) → met_of (in_front k tokens) t ≡ Some m → (u : Token) → slice_get tokens k ≡ Some u
-      → met_of (in_front k tokens) u ≡ Some (record { alive = m.alive; dead = m.dead })
+      → met_of (in_front k tokens) u ≡ Some m
   met_at_one m met u is = ap (met_of (in_front k tokens)) (same_token u is) ∙ met
 
   -- nothing is met there

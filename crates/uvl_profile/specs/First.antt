@@ -17,4 +17,4 @@ pub record IsFirstMet (tokens : List Token) (c : Candidate) : Type 0 where
   pub within : c.index < length tokens
   pub none_before : (k : ℕ) → k < c.index → NothingMet tokens k
   pub met : (t : Token) → slice_get tokens c.index ≡ Some t
-      → met_of (in_front c.index tokens) t ≡ Some (record { alive = c.alive; dead = c.dead })
+      → met_of (in_front c.index tokens) t ≡ Some c.met

@@ -6,16 +6,15 @@ use uvl_base::FaultKind;
 pub struct Candidate {
     /// How many tokens are in front of it.
     pub index: usize,
-    /// What is wrong there where some file has these tokens up to and with it.
-    pub alive: FaultKind,
-    /// What is wrong there where no file has, if it is a named fault.
-    pub dead: Option<FaultKind>,
+    /// What is wrong there.
+    pub met: Met,
 }
 
-/// What is wrong at a token: where it can stand there, and, if that is a named fault too, where it
-/// can't.
+/// What is wrong at a token.
 #[derive(Clone, Copy, Debug, PartialEq, Eq)]
 pub struct Met {
+    /// The fault where some file has these tokens up to and with it.
     pub alive: FaultKind,
+    /// The fault where no file has, if it is a named one.
     pub dead: Option<FaultKind>,
 }

@@ -10,7 +10,7 @@ mod rule;
 mod scan;
 mod section;
 
-pub use candidate::Candidate;
+pub use candidate::{Candidate, Met};
 pub use scan::first_met;
 pub use section::{Section, SectionPart};
 

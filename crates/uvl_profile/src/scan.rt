@@ -37,11 +37,7 @@ pub fn first_met(alloc: Global, tokens: &[Token]) -> Result<Option<Candidate>, A
         let front = &tokens[..index];
         let token = &tokens[index];
         if let Some(met) = scan.met(front, token) {
-            return Ok(Some(Candidate {
-                index,
-                alive: met.alive,
-                dead: met.dead,
-            }));
+            return Ok(Some(Candidate { index, met }));
         }
         scan.take(front, token)?;
     }

@@ -32,7 +32,7 @@ fn is_named(
     at: (u32, u32, FaultKind),
 ) -> Result<(), Fail> {
     let (place, found) = first(alloc, rt, text)?.ok_or("a named fault")?;
-    assert_eq!(rt; (place.line, place.column, found.alive), at);
+    assert_eq!(rt; (place.line, place.column, found.met.alive), at);
     Ok(())
 }
 
