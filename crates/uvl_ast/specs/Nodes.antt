@@ -1,0 +1,52 @@
+-- The nodes of expressions, and the rules of a file.
+use Rattle.std.specs.Prelude.{ℕ, ◌+◌, List, [], ◌++◌, Option, Some, None}
+use Rattle.std.specs.List.{All, flat_map}
+use Rattle.uvl_ast.specs.declared.expression.Expr.{Expr}
+use Rattle.uvl_ast.specs.declared.expression.Expr.TheOpen.{Expr-F}
+use Rattle.uvl_ast.specs.declared.expression.Expr.TheFolds.{fold-Expr}
+use Rattle.uvl_ast.specs.declared.feature.Feature.{Feature}
+use Rattle.uvl_ast.specs.declared.feature.Feature.TheOpen.{Feature-F, Group-F}
+use Rattle.uvl_ast.specs.declared.feature.Feature.TheFolds.{fold-Feature, fold-Group}
+use Rattle.uvl_ast.specs.declared.feature.Group.{Group}
+use Rattle.uvl_ast.specs.declared.file.File.{File}
+
+-- a node and those of its operands, where their number stands for each
+abbrev pub node_count : Expr-F ℕ → ℕ
+node_count (Expr-F.Number value place) = 1
+node_count (Expr-F.Name name) = 1
+node_count (Expr-F.Sum name place) = 1
+node_count (Expr-F.Not operand place) = 1 + operand
+node_count (Expr-F.Binary operator left right place) = 1 + left + right
+
+-- how many nodes an expression has: numbers, names, sums, `!` and operators are one each
+abbrev pub nodes_of : Expr → ℕ
+nodes_of = fold-Expr ℕ node_count
+
+-- the rules of a feature stand in front of those of its groups
+abbrev pub feature_rules : Feature-F (List Expr) (List Expr) → List Expr
+feature_rules feature = feature.rules ++ flat_map (λ rules. rules) feature.groups
+
+-- the rules of a group are those of its members
+abbrev pub group_rules : Group-F (List Expr) (List Expr) → List Expr
+group_rules group = flat_map (λ rules. rules) group.members
+
+-- the rules in braces of a feature and of all below it, in document order
+abbrev pub rules_below : Feature → List Expr
+rules_below = fold-Feature (List Expr) (List Expr) feature_rules group_rules
+
+-- the rules in braces of all below a group
+abbrev pub rules_of_group : Group → List Expr
+rules_of_group = fold-Group (List Expr) (List Expr) feature_rules group_rules
+
+-- the rules in braces of a tree, where there is one
+abbrev pub rules_of_root : Option Feature → List Expr
+rules_of_root None = []
+rules_of_root (Some root) = rules_below root
+
+-- all rules of a file: those in braces, in document order, and then the lines of `constraints`
+abbrev pub rules_of : File → List Expr
+rules_of file = rules_of_root file.root ++ file.rules
+
+-- something holds of every rule of a file
+abbrev pub EachRule : (Expr → Type 0) → File → Type 0
+EachRule Holds file = All Holds (rules_of file)
