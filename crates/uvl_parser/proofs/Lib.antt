@@ -22,3 +22,4 @@ pub mod Firsts
 pub mod Shaped
 pub mod Parts
 pub mod LevelTexts
+pub mod Nodes

@@ -1,0 +1,5 @@
+-- The nodes of rules, by their tokens and by their trees.
+pub mod Kinds
+pub mod Counting
+pub mod Rules
+pub mod Limits
