@@ -3,3 +3,4 @@ pub mod Kinds
 pub mod Counting
 pub mod Rules
 pub mod Limits
+pub mod Lines

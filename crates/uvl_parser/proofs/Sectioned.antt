@@ -54,7 +54,7 @@ module _ (before : List Token) (t : Token) (w : Word) (s : Section) (is : IsWord
   }
 
 -- behind the Dedent that closes a body
-closed : (s : Section) (before : List Token) (t : Token) → part_of before ≡ Body s 1 → IsDedent t → Between (t ∷ before)
+pub closed : (s : Section) (before : List Token) (t : Token) → part_of before ≡ Body s 1 → IsDedent t → Between (t ∷ before)
 closed s before t part is = record {
   begins = ap is_line_mark is;
   part = inl (ap (λ p. part_behind p (begins_line before) t.kind) part ∙ ap (λ kind. part_behind (Body s 1) (begins_line before) kind) is);
@@ -66,7 +66,7 @@ closed s before t part is = record {
 abbrev pub none_met : List Token → Token → Bool
 none_met before t = false
 
-nothing_met : (before xs : List Token) → Clear none_met before xs
+pub nothing_met : (before xs : List Token) → Clear none_met before xs
 nothing_met before [] = tt
 nothing_met before (t ∷ ts) = (refl, nothing_met (t ∷ before) ts)
 
