@@ -31,21 +31,21 @@ abbrev pub group_rules : Group-F (List Expr) (List Expr) → List Expr
 group_rules group = flat_map (λ rules. rules) group.members
 
 -- the rules in braces of a feature and of all below it, in document order
-abbrev pub rules_below : Feature → List Expr
-rules_below = fold-Feature (List Expr) (List Expr) feature_rules group_rules
+abbrev pub all_rules : Feature → List Expr
+all_rules = fold-Feature (List Expr) (List Expr) feature_rules group_rules
 
 -- the rules in braces of all below a group
-abbrev pub rules_of_group : Group → List Expr
-rules_of_group = fold-Group (List Expr) (List Expr) feature_rules group_rules
+abbrev pub all_rules_of_group : Group → List Expr
+all_rules_of_group = fold-Group (List Expr) (List Expr) feature_rules group_rules
 
 -- the rules in braces of a tree, where there is one
-abbrev pub rules_of_root : Option Feature → List Expr
-rules_of_root None = []
-rules_of_root (Some root) = rules_below root
+abbrev pub all_rules_of_root : Option Feature → List Expr
+all_rules_of_root None = []
+all_rules_of_root (Some root) = all_rules root
 
 -- all rules of a file: those in braces, in document order, and then the lines of `constraints`
 abbrev pub rules_of : File → List Expr
-rules_of file = rules_of_root file.root ++ file.rules
+rules_of file = all_rules_of_root file.root ++ file.rules
 
 -- something holds of every rule of a file
 abbrev pub EachRule : (Expr → Type 0) → File → Type 0

@@ -4,3 +4,5 @@ pub mod Counting
 pub mod Rules
 pub mod Limits
 pub mod Lines
+pub mod Entries
+pub mod Trees

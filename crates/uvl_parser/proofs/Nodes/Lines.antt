@@ -1,22 +1,20 @@
 -- The lines of `constraints` have at most 8,192 nodes each where no node is one too many.
-use Rattle.std.specs.Prelude.{◌≡◌, ◌≤◌, true, ◌&&◌, ◌||◌, List, [], ◌∷◌, ◌++◌}
+use Rattle.std.specs.Prelude.{◌≡◌, ◌≤◌, true, List, [], ◌∷◌, ◌++◌}
 use Rattle.std.specs.List.{All}
-use Rattle.std.proofs.Common.{refl, ap, ◌∙◌}
+use Rattle.std.proofs.Common.{refl, ap}
 use Rattle.std.proofs.lemmas.List.Elements.{All-nil, All-cons}
 use Rattle.uvl_lexer.specs.declared.token.Token.{Token}
 use Rattle.uvl_lexer.specs.declared.token.Word.TheVariants as word
-use Rattle.uvl_lexer.specs.declared.token.Symbol.TheVariants as symbol
 use Rattle.uvl_ast.specs.declared.expression.Expr.{Expr}
 use Rattle.uvl_ast.specs.Nodes.{nodes_of}
-use Rattle.uvl_parser.specs.declared.named.section.Section.TheVariants.{Features, Constraints}
-use Rattle.uvl_parser.specs.Tests.{is_word, is_symbol}
+use Rattle.uvl_parser.specs.declared.named.section.Section.TheVariants.{Constraints}
 use Rattle.uvl_parser.specs.Shapes.{Repeated, None_more, One_more, OneOrMore, First, No_body, Indented}
 use Rattle.uvl_parser.specs.Sections.{SpellsSection, No_section, Lines, SpellsRule, Rule}
-use Rattle.uvl_parser.specs.Named.Lines.{is_line_mark}
-use Rattle.uvl_parser.specs.Named.Sections.{belongs, is_in}
-use Rattle.uvl_parser.specs.Named.Rules.{in_list, opens_list, rule_behind}
+use Rattle.uvl_parser.specs.Named.Sections.{belongs}
+use Rattle.uvl_parser.specs.Named.Rules.{rule_behind}
 use Rattle.uvl_parser.proofs.Walking.{Clear, clear_front, LineBegins, Passes, one_or_more_passes}
 use Rattle.uvl_parser.proofs.Sectioned.{Between, body_begins, nothing_met, rule_kept}
+use Rattle.uvl_parser.proofs.Nodes.Rules.{begins_by_line}
 use Rattle.uvl_parser.proofs.Nodes.Limits.{too_many, rule_within_limit}
 
 -- a rule within the limit
@@ -34,12 +32,7 @@ each_few (One_more {a} {items} r rs) = All-cons HasFewNodes a items r (each_few 
 
 -- a rule begins where a line of constraints does
 line_behind : (before : List Token) (t : Token) → LineBegins Constraints 1 (t ∷ before) → rule_behind before t ≡ true
-line_behind before t here =
-    let others = is_word word.Constraint t.kind && is_in Features before in
-    let list = opens_list before t.kind in
-    let comma = is_symbol symbol.Comma t.kind && in_list before in
-    ap (λ b. (b && is_in Constraints (t ∷ before)) || others || list || comma) here.begins
-    ∙ ap (λ part. belongs Constraints part || others || list || comma) here.part
+line_behind before t here = begins_by_line before t here.begins (ap (belongs Constraints) here.part)
 
 rule_few : Passes too_many (LineBegins Constraints 1) SpellsRule Few
 rule_few [] ts e here clear r = let outside = here.part in cc

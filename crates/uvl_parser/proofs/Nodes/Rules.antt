@@ -1,6 +1,7 @@
 -- Behind the tokens of an expression with which a rule begins, as many nodes are counted as its tree has.
 use Rattle.std.specs.Prelude.{◌≡◌, ℕ, ◌+◌, Bool, true, false, not, ◌&&◌, ◌||◌, cond, List, [], ◌∷◌, ◌++◌, reverse, Some, None}
 use Rattle.std.proofs.Common.{refl, sym, ap, ◌∙◌, arith, append_assoc, zero-add}
+use Rattle.std.proofs.lemmas.Bool.{and_from, or_left, or_right}
 use Rattle.std.proofs.lemmas.List.{reverse-append}
 use Rattle.uvl_lexer.specs.declared.token.Token.{Token}
 use Rattle.uvl_lexer.specs.declared.token.TokenKind.{TokenKind}
@@ -15,13 +16,45 @@ use Rattle.uvl_parser.specs.Expressions.{SpellsExpr}
 use Rattle.uvl_parser.specs.Named.Lines.{is_line_mark}
 use Rattle.uvl_parser.specs.Named.Nesting.{one_if}
 use Rattle.uvl_parser.specs.Named.Sections.{is_in}
-use Rattle.uvl_parser.specs.Named.Rules.{ends_number, is_node, in_list, rule_behind, ends_rule, with_node, rule_nodes}
+use Rattle.uvl_parser.specs.Named.Rules.{ends_number, is_node, in_list, opens_list, rule_behind, ends_rule, with_node, rule_nodes}
 use Rattle.uvl_parser.specs.Law.{nodes_among}
 use Rattle.uvl_parser.proofs.Walking.{walk}
 use Rattle.uvl_parser.proofs.Nodes.Kinds.{leaves_rule, stays_in_rule}
 use Rattle.uvl_parser.proofs.Nodes.Counting.{AllStay, OperandBegins, expression_counted}
 
--- ---- where a rule begins
+-- ---- the four ways in which a rule begins
+
+module _ (before : List Token) (t : Token) where
+  abbrev by_line : Bool
+  by_line = is_line_mark t.kind && is_in Constraints (t ∷ before)
+
+  abbrev by_word : Bool
+  by_word = is_word word.Constraint t.kind && is_in Features before
+
+  abbrev by_comma : Bool
+  by_comma = is_symbol symbol.Comma t.kind && in_list before
+
+  pub begins_by_line : is_line_mark t.kind ≡ true → is_in Constraints (t ∷ before) ≡ true → rule_behind before t ≡ true
+  begins_by_line mark inside =
+      or_left (by_line || by_word || opens_list before t.kind) by_comma
+      (or_left (by_line || by_word) (opens_list before t.kind)
+      (or_left by_line by_word (and_from (is_line_mark t.kind) (is_in Constraints (t ∷ before)) mark inside)))
+
+  pub begins_by_word : is_word word.Constraint t.kind ≡ true → is_in Features before ≡ true → rule_behind before t ≡ true
+  begins_by_word is inside =
+      or_left (by_line || by_word || opens_list before t.kind) by_comma
+      (or_left (by_line || by_word) (opens_list before t.kind)
+      (or_right by_line by_word (and_from (is_word word.Constraint t.kind) (is_in Features before) is inside)))
+
+  pub begins_by_list : opens_list before t.kind ≡ true → rule_behind before t ≡ true
+  begins_by_list opens =
+      or_left (by_line || by_word || opens_list before t.kind) by_comma (or_right (by_line || by_word) (opens_list before t.kind) opens)
+
+  pub begins_by_comma : is_symbol symbol.Comma t.kind ≡ true → in_list before ≡ true → rule_behind before t ≡ true
+  begins_by_comma is inside =
+      or_right (by_line || by_word || opens_list before t.kind) by_comma (and_from (is_symbol symbol.Comma t.kind) (in_list before) is inside)
+
+-- ---- an operand begins where a rule does
 
 -- the tokens behind which a rule may begin
 abbrev may_precede_rule : Test
