@@ -8,11 +8,13 @@ use Rattle.uvl_ast.specs.declared.file.File.{File}
 use Rattle.uvl_ast.specs.declared.feature.Feature.{Feature}
 use Rattle.uvl_ast.specs.Depth.{depth_of}
 use Rattle.uvl_ast.specs.Members.{EachGroupHasMembers}
+use Rattle.uvl_ast.specs.Nodes.{EachRule, nodes_of}
 use Rattle.uvl_parser.specs.declared.fault.ParseFault.{ParseFault}
 use Rattle.uvl_parser.specs.declared.fault.ParseFault.TheVariants.{At, OutOfMemory}
 use Rattle.uvl_parser.specs.Parsing.{IsParsedAs, IsRefusedAt, OnFault}
 use Rattle.uvl_parser.proofs.Shallow.{IsShallow, file_shallow}
 use Rattle.uvl_parser.proofs.Once.{never_both}
+use Rattle.uvl_parser.proofs.Nodes.Trees.{file_few}
 use Rattle.uvl_parser.proofs.Parts.Members.{within_depth, within_members}
 
 module _ (tokens : List Token) where
@@ -47,3 +49,7 @@ module _ (tokens : List Token) where
   pub members : (r : Result File ParseFault) → IfOk r (λ f. IsParsedAs tokens f) → IfOk r (λ f. IfSome f.root EachGroupHasMembers)
   members (Ok f) told = root_members f.root (file_shallow tokens f told.spelled told.unnamed)
   members (Err fault) told = tt
+
+  pub nodes : (r : Result File ParseFault) → IfOk r (λ f. IsParsedAs tokens f) → IfOk r (λ f. EachRule (λ rule. nodes_of rule ≤ 8192) f)
+  nodes (Ok f) told = file_few tokens f told.spelled told.unnamed
+  nodes (Err fault) told = tt

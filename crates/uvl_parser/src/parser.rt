@@ -6,6 +6,7 @@ ghost use Rattle.uvl_lexer.specs.TokenList.{IsTokenList};
 ghost use Rattle.uvl_ast.specs.declared.file.File.{File};
 ghost use Rattle.uvl_ast.specs.Depth.{depth_of};
 ghost use Rattle.uvl_ast.specs.Members.{EachGroupHasMembers};
+ghost use Rattle.uvl_ast.specs.Nodes.{EachRule, nodes_of};
 ghost use Rattle.uvl_parser.specs.Named.{NoneNamed, IsFirstNamed};
 ghost use Rattle.uvl_parser.specs.Parsing.{IsParsedAs, IsFaultAt, IsRefusedAt, OnFault};
 ghost use Rattle.std.specs.Option.{unwrap_or};
@@ -23,7 +24,7 @@ use uvl_lexer::Token;
 /// own is met, is refused at the first token at which such a fault is met or with which no file
 /// begins: for the named fault with the lowest number that is met there, or else for `Syntax`.
 /// Nothing but want of memory refuses a list that spells a file without named faults. Features of
-/// the file nest at most 64 deep, and each group has members.
+/// the file nest at most 64 deep, each group has members, and each rule has at most 8,192 nodes.
 pub fn parse(alloc: Global, tokens: &[Token]) -> Result<File, ParseFault>
     requires { IsTokenList tokens.now }
     ensures file { IfOk result (λ file. IsParsedAs tokens.now file) }
@@ -32,6 +33,7 @@ pub fn parse(alloc: Global, tokens: &[Token]) -> Result<File, ParseFault>
     ensures never_read { (place : Place) (kind : FaultKind) → IsRefusedAt tokens.now place kind → IsErr result }
     ensures shallow { IfOk result (λ file. IfSome file.root (λ root. depth_of root ≤ 64)) }
     ensures members { IfOk result (λ file. IfSome file.root EachGroupHasMembers) }
+    ensures nodes { IfOk result (λ file. EachRule (λ rule. nodes_of rule ≤ 8192) file) }
 {
     parse_tokens(alloc, tokens)
 }

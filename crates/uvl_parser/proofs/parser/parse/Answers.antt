@@ -1,5 +1,5 @@
 -- The clauses of a caller follow from those of reading.
-use Rattle.uvl_parser.proofs.Answers.{never_refused, never_read, shallow, members}
+use Rattle.uvl_parser.proofs.Answers.{never_refused, never_read, shallow, members, nodes}
 use Rattle.uvl_parser.proofs.parser.parse.Goals as goal
 
 pub returns-clause-never_refused : goal.returns-clause-never_refused
@@ -13,3 +13,6 @@ returns-clause-shallow c = shallow c.args.tokens.now c.parse_tokens.result c.par
 
 pub returns-clause-members : goal.returns-clause-members
 returns-clause-members c = members c.args.tokens.now c.parse_tokens.result c.parse_tokens.ensures.file
+
+pub returns-clause-nodes : goal.returns-clause-nodes
+returns-clause-nodes c = nodes c.args.tokens.now c.parse_tokens.result c.parse_tokens.ensures.file
