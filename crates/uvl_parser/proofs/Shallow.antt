@@ -9,15 +9,15 @@ use Rattle.uvl_lexer.specs.declared.token.Token.{Token}
 use Rattle.uvl_lexer.specs.declared.token.Word.TheVariants as word
 use Rattle.uvl_ast.specs.declared.feature.Feature.{Feature}
 use Rattle.uvl_ast.specs.declared.file.File.{File}
-use Rattle.uvl_parser.specs.declared.named.section.Section.TheVariants.{Include, Imports, Features}
+use Rattle.uvl_parser.specs.declared.named.section.Section.TheVariants.{Features}
 use Rattle.uvl_parser.specs.Features.{FeatureWithin}
-use Rattle.uvl_parser.specs.Sections.{SpellsLevel, SpellsImport, SpellsFeatures, No_features, Root}
+use Rattle.uvl_parser.specs.Sections.{SpellsFeatures, No_features, Root}
 use Rattle.uvl_parser.specs.File.{Spells, A_file}
 use Rattle.uvl_parser.specs.Dead.{Dead}
 use Rattle.uvl_parser.specs.Named.{IsMetAlive, in_front, Where_alive, Deep, NoneNamed}
-use Rattle.uvl_parser.proofs.Walking.{walk, walk_append, Clear, clear_front, clear_back}
+use Rattle.uvl_parser.proofs.Walking.{walk, Clear, clear_front, clear_back}
 use Rattle.uvl_parser.proofs.Depths.{deep, feature_passes}
-use Rattle.uvl_parser.proofs.Sectioned.{Between, body_begins, level_kept, import_kept, section_passed, namespace_passed}
+use Rattle.uvl_parser.proofs.Sectioned.{Between, body_begins, features_between}
 
 -- ---- a spelled list has no dead token
 
@@ -75,8 +75,5 @@ file_shallow tokens file (A_file {ns} {ls} {ms} {fs} {rs} finish {root} named in
     let all = all_clear deep TooDeep (λ before t met. Deep met) tokens file (A_file finish named included imported tree ruled is) none in
     let front = ns ++ ls ++ ms in
     let clear_fs = clear_back deep [] front fs (clear_front deep [] (front ++ fs) rs (clear_front deep [] (front ++ fs ++ rs) (finish ∷ []) all)) in
-    let after_namespace = namespace_passed ns _ named in
-    let after_include = section_passed word.Include Include refl SpellsLevel (level_kept Include) (walk [] ns) ls _ after_namespace included in
-    let after_imports = section_passed word.Imports Imports refl SpellsImport (import_kept Imports) (walk (walk [] ns) ls) ms _ after_include imported in
-    let here = walk_append [] (ns ++ ls) ms ∙ ap (λ b. walk b ms) (walk_append [] ns ls) in
-    root_shallow (walk [] front) fs root (subst Between (sym here) after_imports) clear_fs tree
+    let between = features_between ns ls ms _ _ _ named included imported in
+    root_shallow (walk [] front) fs root between clear_fs tree

@@ -3,7 +3,6 @@ use Rattle.std.specs.Prelude.{◌≡◌, ℕ, zero, suc, ◌+◌, Bool, true, fa
 use Rattle.std.proofs.Common.{refl, sym, ap, ◌∙◌, arith}
 use Rattle.std.proofs.lemmas.Bool.{and_right}
 use Rattle.uvl_lexer.specs.declared.token.Token.{Token}
-use Rattle.uvl_lexer.specs.declared.token.TokenKind.{TokenKind}
 use Rattle.uvl_lexer.specs.declared.token.Word.TheVariants as word
 use Rattle.uvl_lexer.specs.declared.token.Symbol.TheVariants as symbol
 use Rattle.uvl_base.specs.declared.place.Place.{Place}
@@ -21,7 +20,7 @@ use Rattle.uvl_parser.specs.Shapes.{Spelling, Repeated, None_more, One_more}
 use Rattle.uvl_parser.specs.Refs as refs
 use Rattle.uvl_parser.specs.Refs.{SpellsDotName, SpellsRef}
 use Rattle.uvl_parser.specs.Expressions as exprs
-use Rattle.uvl_parser.specs.Expressions.{Operators, Grouped, Connected, SpellsPrimary, SpellsSum, SpellsComparison, SpellsOperand, OperandWithin, SpellsExpr, iff_operator, implies_operator, or_operator, and_operator, comparison_operator, sum_operator, product_operator}
+use Rattle.uvl_parser.specs.Expressions.{Operators, Grouped, Connected, SpellsPrimary, SpellsSum, SpellsComparison, SpellsOperand, OperandWithin, SpellsExpr, iff_operator, implies_operator, or_operator, and_operator, sum_operator, product_operator}
 use Rattle.uvl_parser.specs.Named.Nesting.{one_if}
 use Rattle.uvl_parser.specs.Named.Rules.{ends_number, behind_sign, behind_sum, is_operator, is_node}
 use Rattle.uvl_parser.specs.Law.{nodes_among}

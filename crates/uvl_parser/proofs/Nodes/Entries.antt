@@ -1,5 +1,5 @@
 -- The rules in braces have at most 8,192 nodes each where no node is one too many.
-use Rattle.std.specs.Prelude.{◌≡◌, ℕ, true, false, not, ◌&&◌, ◌||◌, List, [], ◌∷◌, ◌++◌}
+use Rattle.std.specs.Prelude.{◌≡◌, ℕ, true, false, not, ◌&&◌, List, [], ◌∷◌}
 use Rattle.std.specs.List.{All}
 use Rattle.std.proofs.Common.{ap}
 use Rattle.std.proofs.lemmas.Bool.{and_from, or_left, or_right}
@@ -22,7 +22,7 @@ use Rattle.uvl_parser.specs.Named.Sections.{belongs, part_of, is_in}
 use Rattle.uvl_parser.specs.Named.Rules.{in_list, opens_list, rule_behind}
 use Rattle.uvl_parser.proofs.Walking.{walk, in_line_of_body, Clear, clear_front, clear_back, Passes, repeated_passes, separated_passes}
 use Rattle.uvl_parser.proofs.Inline.{entry_inline}
-use Rattle.uvl_parser.proofs.Nodes.Kinds.{leaves_rule, stays_in_rule}
+use Rattle.uvl_parser.proofs.Nodes.Kinds.{stays_in_rule}
 use Rattle.uvl_parser.proofs.Nodes.Counting.{AllStay}
 use Rattle.uvl_parser.proofs.Nodes.Rules.{begins_by_word, begins_by_list, begins_by_comma, rule_stays}
 use Rattle.uvl_parser.proofs.Nodes.Limits.{too_many, rule_within_limit}

@@ -1,5 +1,5 @@
 -- What the tokens of an expression are to the nodes of a rule.
-use Rattle.std.specs.Prelude.{◌≡◌, ℕ, ℤ, Bool, true, false, not, ◌&&◌, ◌||◌, List, ◌∷◌, Some}
+use Rattle.std.specs.Prelude.{◌≡◌, ℕ, ℤ, true, false, not, ◌&&◌, ◌||◌, List, Some}
 use Rattle.std.proofs.Common.{refl}
 use Rattle.std.proofs.lemmas.Bool.{or_parts}
 use Rattle.uvl_lexer.specs.declared.token.Token.{Token}

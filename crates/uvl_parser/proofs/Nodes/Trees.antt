@@ -1,7 +1,7 @@
 -- Every rule of a file without named faults has at most 8,192 nodes.
-use Rattle.std.specs.Prelude.{◌≡◌, ℕ, zero, suc, ◌+◌, ◌≤◌, List, [], ◌∷◌, ◌++◌, map, Option, Some, None}
+use Rattle.std.specs.Prelude.{◌≡◌, ℕ, zero, suc, ◌+◌, ◌≤◌, List, [], ◌∷◌, ◌++◌, map, Option}
 use Rattle.std.specs.List.{All, flat_map}
-use Rattle.std.proofs.Common.{refl, sym, ap, subst, ◌∙◌, arith}
+use Rattle.std.proofs.Common.{refl, sym, subst, arith}
 use Rattle.std.proofs.lemmas.List.Elements.{All-nil, All-append}
 use Rattle.uvl_base.specs.declared.fault.FaultKind.TheVariants.{ExpressionTooLarge}
 use Rattle.uvl_lexer.specs.declared.token.Token.{Token}
@@ -13,17 +13,17 @@ use Rattle.uvl_ast.specs.declared.feature.Feature.TheOpen.{Feature-F, Group-F}
 use Rattle.uvl_ast.specs.declared.feature.Feature.TheFolds.{fold-roll-Feature, fold-roll-Group}
 use Rattle.uvl_ast.specs.declared.file.File.{File}
 use Rattle.uvl_ast.specs.Nodes.{feature_rules, group_rules, all_rules, all_rules_of_group, all_rules_of_root, EachRule}
-use Rattle.uvl_parser.specs.declared.named.section.Section.TheVariants.{Include, Imports, Features}
+use Rattle.uvl_parser.specs.declared.named.section.Section.TheVariants.{Features}
 use Rattle.uvl_parser.specs.Shapes.{Spelling, OneOrMore, First, Body, No_body, Indented}
 use Rattle.uvl_parser.specs.Braces.{attributes_of, rules_of}
 use Rattle.uvl_parser.specs.Features.{SpellsGroup, Members, Line, FeatureWithin}
-use Rattle.uvl_parser.specs.Sections.{SpellsLevel, SpellsImport, SpellsFeatures, No_features, Root}
+use Rattle.uvl_parser.specs.Sections.{SpellsFeatures, No_features, Root}
 use Rattle.uvl_parser.specs.File.{Spells, A_file}
 use Rattle.uvl_parser.specs.Named.{Large, NoneNamed}
 use Rattle.uvl_parser.proofs.Walking.{walk, walk_append, Clear, clear_front, clear_back, in_line_append, in_line_of_body, LineBegins, next_line, Passes}
 use Rattle.uvl_parser.proofs.Inline.{ref_inline, braces_inline, boolean_inline}
 use Rattle.uvl_parser.proofs.Depths.{body_passes, group_passes}
-use Rattle.uvl_parser.proofs.Sectioned.{Between, body_begins, closed, level_kept, import_kept, section_passed, namespace_passed}
+use Rattle.uvl_parser.proofs.Sectioned.{Between, body_begins, closed, features_between}
 use Rattle.uvl_parser.proofs.Shallow.{all_clear}
 use Rattle.uvl_parser.proofs.Parts.Members.{repeated_all}
 use Rattle.uvl_parser.proofs.Nodes.Limits.{too_many}
@@ -100,10 +100,7 @@ file_few tokens file (A_file {ns} {ls} {ms} {fs} {rs} finish {root} {rules} name
     let clear_all = clear_front too_many [] (front ++ fs ++ rs) (finish ∷ []) all in
     let clear_fs = clear_back too_many [] front fs (clear_front too_many [] (front ++ fs) rs clear_all) in
     let clear_rs = clear_back too_many [] (front ++ fs) rs clear_all in
-    let after_namespace = namespace_passed ns _ named in
-    let after_include = section_passed word.Include Include refl SpellsLevel (level_kept Include) (walk [] ns) ls _ after_namespace included in
-    let after_imports = section_passed word.Imports Imports refl SpellsImport (import_kept Imports) (walk (walk [] ns) ls) ms _ after_include imported in
-    let here = walk_append [] (ns ++ ls) ms ∙ ap (λ b. walk b ms) (walk_append [] ns ls) in
-    let few = root_few (walk [] front) fs root (subst Between (sym here) after_imports) clear_fs tree in
+    let between = features_between ns ls ms _ _ _ named included imported in
+    let few = root_few (walk [] front) fs root between clear_fs tree in
     All-append HasFewNodes (all_rules_of_root root) rules few.0
     (constraints_few (walk [] (front ++ fs)) rs rules (subst Between (sym (walk_append [] front fs)) few.1) clear_rs ruled)
