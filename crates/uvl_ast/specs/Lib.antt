@@ -1,4 +1,6 @@
 pub mod Depth
 pub mod Members
 pub mod Nesting
+pub mod Rules
+pub mod Nodes
 pub mod Operands

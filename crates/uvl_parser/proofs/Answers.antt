@@ -9,12 +9,15 @@ use Rattle.uvl_ast.specs.declared.feature.Feature.{Feature}
 use Rattle.uvl_ast.specs.Depth.{depth_of}
 use Rattle.uvl_ast.specs.Members.{EachGroupHasMembers}
 use Rattle.uvl_ast.specs.Nesting.{EachValueNests}
-use Rattle.uvl_ast.specs.Operands.{EachRuleStandsWithin}
+use Rattle.uvl_ast.specs.Rules.{EachRule}
+use Rattle.uvl_ast.specs.Nodes.{nodes_of}
+use Rattle.uvl_ast.specs.Operands.{right_operands}
 use Rattle.uvl_parser.specs.declared.fault.ParseFault.{ParseFault}
 use Rattle.uvl_parser.specs.declared.fault.ParseFault.TheVariants.{At, OutOfMemory}
 use Rattle.uvl_parser.specs.Parsing.{IsParsedAs, IsRefusedAt, OnFault}
 use Rattle.uvl_parser.proofs.Shallow.{IsShallow, file_shallow}
 use Rattle.uvl_parser.proofs.Once.{never_both}
+use Rattle.uvl_parser.proofs.Nodes.Trees.{file_few}
 use Rattle.uvl_parser.proofs.Parts.Members.{within_depth, within_members}
 use Rattle.uvl_parser.proofs.Nesting.Files.{file_nested, file_grouped}
 
@@ -55,6 +58,10 @@ module _ (tokens : List Token) where
   nested (Ok f) told = file_nested tokens f told.spelled told.unnamed
   nested (Err fault) told = tt
 
-  pub grouped : (r : Result File ParseFault) → IfOk r (λ f. IsParsedAs tokens f) → IfOk r (EachRuleStandsWithin 516)
+  pub grouped : (r : Result File ParseFault) → IfOk r (λ f. IsParsedAs tokens f) → IfOk r (EachRule (λ rule. right_operands rule ≤ 516))
   grouped (Ok f) told = file_grouped tokens f told.spelled told.unnamed
   grouped (Err fault) told = tt
+
+  pub nodes : (r : Result File ParseFault) → IfOk r (λ f. IsParsedAs tokens f) → IfOk r (EachRule (λ rule. nodes_of rule ≤ 8192))
+  nodes (Ok f) told = file_few tokens f told.spelled told.unnamed
+  nodes (Err fault) told = tt

@@ -56,33 +56,34 @@ reference_deep n before bs rs r here said (Reference t {name} named names) clear
 
 -- ---- a body of groups
 
--- what is indented below a line goes over into another such
-body_passes : {A : Type 0} (n : ℕ) → 1 ≤ n → (R S : Spelling A) → Passes deep (LineBegins Features (n + 1)) R S
-    → Passes deep (LineBegins Features n) (Body R) (Body S)
-body_passes n some R S step before zs items here clear No_body = (No_body, here)
-body_passes n some R S step before zs items here clear (Indented indent dedent {xs} is parts closes) =
-    let inner = deeper_line Features n before indent here.part is in
-    let passed = one_or_more_passes deep (LineBegins Features (n + 1)) R S step (indent ∷ before) xs items inner (clear_front deep before (indent ∷ xs) (dedent ∷ []) clear).1 parts in
-    let after = outer_line Features (n + 1) n (walk (indent ∷ before) xs) dedent refl some passed.1.part closes in
-    (Indented indent dedent is passed.0 closes, subst (LineBegins Features n) (sym (walk_append before (indent ∷ xs) (dedent ∷ []))) after)
+module _ (met : List Token → Token → Bool) where
+  -- what is indented below a line goes over into another such
+  pub body_passes : {A : Type 0} (n : ℕ) → 1 ≤ n → (R S : Spelling A) → Passes met (LineBegins Features (n + 1)) R S
+      → Passes met (LineBegins Features n) (Body R) (Body S)
+  body_passes n some R S step before zs items here clear No_body = (No_body, here)
+  body_passes n some R S step before zs items here clear (Indented indent dedent {xs} is parts closes) =
+      let inner = deeper_line Features n before indent here.part is in
+      let passed = one_or_more_passes met (LineBegins Features (n + 1)) R S step (indent ∷ before) xs items inner (clear_front met before (indent ∷ xs) (dedent ∷ []) clear).1 parts in
+      let after = outer_line Features (n + 1) n (walk (indent ∷ before) xs) dedent refl some passed.1.part closes in
+      (Indented indent dedent is passed.0 closes, subst (LineBegins Features n) (sym (walk_append before (indent ∷ xs) (dedent ∷ []))) after)
 
--- a group
-group_passes : (n : ℕ) → (M N : Spelling Feature) → Passes deep (LineBegins Features (n + 2)) M N
-    → Passes deep (LineBegins Features (n + 1)) (SpellsGroup M) (SpellsGroup N)
-group_passes n M N step before zs group here clear (Members {xs} {ys} newline indent dedent kind ends opens members closes) =
-    let front = walk before xs in
-    let at = in_line_of_body Features (n + 1) before xs here.part (kind_inline xs _ kind) in
-    let line = next_line Features (n + 1) front newline at ends in
-    let inner : LineBegins Features (n + 2) (indent ∷ newline ∷ front) =
-    subst (λ k. LineBegins Features k (indent ∷ newline ∷ front)) (omega arith) (deeper_line Features (n + 1) (newline ∷ front) indent line.part opens) in
-    let clear_all = clear_front deep before (xs ++ newline ∷ indent ∷ ys) (dedent ∷ []) clear in
-    let clear_ys = (clear_back deep before xs (newline ∷ indent ∷ ys) clear_all).1.1 in
-    let passed = one_or_more_passes deep (LineBegins Features (n + 2)) M N step (indent ∷ newline ∷ front) ys _ inner clear_ys members in
-    let after = outer_line Features (n + 2) (n + 1) (walk (indent ∷ newline ∷ front) ys) dedent (omega arith) (omega arith) passed.1.part closes in (
-      Members newline indent dedent kind ends opens passed.0 closes,
-      subst (LineBegins Features (n + 1))
-          (sym (walk_append before (xs ++ newline ∷ indent ∷ ys) (dedent ∷ []) ∙ ap (λ b. walk b (dedent ∷ [])) (walk_append before xs (newline ∷ indent ∷ ys)))) after,
-    )
+  -- a group
+  pub group_passes : (n : ℕ) → (M N : Spelling Feature) → Passes met (LineBegins Features (n + 2)) M N
+      → Passes met (LineBegins Features (n + 1)) (SpellsGroup M) (SpellsGroup N)
+  group_passes n M N step before zs group here clear (Members {xs} {ys} newline indent dedent kind ends opens members closes) =
+      let front = walk before xs in
+      let at = in_line_of_body Features (n + 1) before xs here.part (kind_inline xs _ kind) in
+      let line = next_line Features (n + 1) front newline at ends in
+      let inner : LineBegins Features (n + 2) (indent ∷ newline ∷ front) =
+      subst (λ k. LineBegins Features k (indent ∷ newline ∷ front)) (omega arith) (deeper_line Features (n + 1) (newline ∷ front) indent line.part opens) in
+      let clear_all = clear_front met before (xs ++ newline ∷ indent ∷ ys) (dedent ∷ []) clear in
+      let clear_ys = (clear_back met before xs (newline ∷ indent ∷ ys) clear_all).1.1 in
+      let passed = one_or_more_passes met (LineBegins Features (n + 2)) M N step (indent ∷ newline ∷ front) ys _ inner clear_ys members in
+      let after = outer_line Features (n + 2) (n + 1) (walk (indent ∷ newline ∷ front) ys) dedent (omega arith) (omega arith) passed.1.part closes in (
+        Members newline indent dedent kind ends opens passed.0 closes,
+        subst (LineBegins Features (n + 1))
+            (sym (walk_append before (xs ++ newline ∷ indent ∷ ys) (dedent ∷ []) ∙ ap (λ b. walk b (dedent ∷ [])) (walk_append before xs (newline ∷ indent ∷ ys)))) after,
+      )
 
 -- ---- features
 
@@ -99,7 +100,7 @@ feature_passes (suc d) (suc k) j n total levels before ts f here clear (Line {bs
     let line = next_line Features n (walk before whole) newline at ends in
     let some : 1 ≤ n = omega arith in
     let member = feature_passes d k (j + 1) (n + 2) (omega arith) (omega arith) in
-    let group = group_passes n (FeatureWithin d) (FeatureWithin k) member in
-    let passed = body_passes n some (SpellsGroup (FeatureWithin d)) (SpellsGroup (FeatureWithin k)) group (newline ∷ walk before whole) zs _ line
+    let group = group_passes deep n (FeatureWithin d) (FeatureWithin k) member in
+    let passed = body_passes deep n some (SpellsGroup (FeatureWithin d)) (SpellsGroup (FeatureWithin k)) group (newline ∷ walk before whole) zs _ line
     (clear_back deep before whole (newline ∷ zs) clear).1 groups in
     (Line newline said r entries ends passed.0, subst (LineBegins Features n) (sym (walk_append before whole (newline ∷ zs))) passed.1)

@@ -186,16 +186,16 @@ plain xs v r = attribute (ValueWithin r.0) (value_within r.0) xs v r.1
 
 -- ---- braces
 
-entry : StandsInLine SpellsEntry
-entry xs v (braces.Attribute_entry {a} r) = plain xs a r
-entry xs v (braces.Constraint t {xs = us} {e} is r) = (a_word _ t is, expr_inline us e r)
-entry xs v (braces.Constraints t left right {xs = us} {es} is opens r closes) =
+pub entry_inline : StandsInLine SpellsEntry
+entry_inline xs v (braces.Attribute_entry {a} r) = plain xs a r
+entry_inline xs v (braces.Constraint t {xs = us} {e} is r) = (a_word _ t is, expr_inline us e r)
+entry_inline xs v (braces.Constraints t left right {xs = us} {es} is opens r closes) =
     (a_word _ t is, (a_symbol _ left opens, in_line_append us (right ∷ []) (separated SpellsExpr expr_inline us es r) (a_symbol _ right closes, tt)))
 
 pub braces_inline : StandsInLine SpellsBraces
 braces_inline xs v braces.No_braces = tt
 braces_inline xs v (braces.Entries left right {xs = us} opens r closes) =
-    (a_symbol _ left opens, in_line_append us (right ∷ []) (separated SpellsEntry entry us v r) (a_symbol _ right closes, tt))
+    (a_symbol _ left opens, in_line_append us (right ∷ []) (separated SpellsEntry entry_inline us v r) (a_symbol _ right closes, tt))
 
 -- ---- lines
 

@@ -19,3 +19,4 @@ pub mod Firsts
 pub mod Shaped
 pub mod Parts
 pub mod LevelTexts
+pub mod Nodes

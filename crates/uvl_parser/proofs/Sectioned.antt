@@ -1,12 +1,15 @@
 -- The sections that tokens tell are those that a file is spelled by: the tree of features stands in the
 -- body of the features section.
-use Rattle.std.specs.Prelude.{◌≡◌, ◌⊎◌, Bool, true, false, cond, List, [], ◌∷◌, ◌++◌, Option, Some}
+use Rattle.std.specs.Prelude.{◌≡◌, ℕ, ◌⊎◌, Bool, true, false, cond, List, [], ◌∷◌, ◌++◌, Option, Some}
 use Rattle.std.proofs.Common.{refl, sym, ap, subst, ◌∙◌, inl, inr}
 use Rattle.uvl_lexer.specs.declared.token.Token.{Token}
 use Rattle.uvl_lexer.specs.declared.token.TokenKind.TheVariants as token
 use Rattle.uvl_lexer.specs.declared.token.Word.{Word}
+use Rattle.uvl_lexer.specs.declared.token.Word.TheVariants as word
 use Rattle.uvl_ast.specs.declared.names.Ref.{Ref}
+use Rattle.uvl_ast.specs.declared.file.Import.{Import}
 use Rattle.uvl_profile.specs.declared.section.Section.{Section}
+use Rattle.uvl_profile.specs.declared.section.Section.TheVariants.{Include, Imports}
 use Rattle.uvl_profile.specs.declared.section.SectionPart.TheVariants.{Outside, Heading, Headed, Body}
 use Rattle.uvl_parser.specs.Tests.{is_newline, is_indent}
 use Rattle.uvl_parser.specs.Tokens.{IsWord, IsNewline, IsIndent, IsDedent}
@@ -54,7 +57,7 @@ module _ (before : List Token) (t : Token) (w : Word) (s : Section) (is : IsWord
   }
 
 -- behind the Dedent that closes a body
-closed : (s : Section) (before : List Token) (t : Token) → part_of before ≡ Body s 1 → IsDedent t → Between (t ∷ before)
+pub closed : (s : Section) (before : List Token) (t : Token) → part_of before ≡ Body s 1 → IsDedent t → Between (t ∷ before)
 closed s before t part is = record {
   begins = ap is_line_mark is;
   part = inl (ap (λ p. part_behind p (begins_line before) t.kind) part ∙ ap (λ kind. part_behind (Body s 1) (begins_line before) kind) is);
@@ -66,7 +69,7 @@ closed s before t part is = record {
 abbrev pub none_met : List Token → Token → Bool
 none_met before t = false
 
-nothing_met : (before xs : List Token) → Clear none_met before xs
+pub nothing_met : (before xs : List Token) → Clear none_met before xs
 nothing_met before [] = tt
 nothing_met before (t ∷ ts) = (refl, nothing_met (t ∷ before) ts)
 
@@ -127,3 +130,13 @@ namespace_passed zs r (Namespace t newline {xs} is named ends) =
       part = inl (ap (λ p. part_behind p (begins_line front) newline.kind) line.0 ∙ ap (λ b. cond b (in_heading (section_named newline.kind)) Outside) line.1);
     } in
     subst Between (sym (walk_append [] (t ∷ xs) (newline ∷ []))) between
+
+-- the features section stands between the sections in front of it and others
+pub features_between : (ns ls ms : List Token) (namespace : Option Ref) (levels : List (List ℕ)) (imports : List Import)
+    → SpellsNamespace ns namespace → SpellsSection word.Include SpellsLevel ls levels → SpellsSection word.Imports SpellsImport ms imports
+    → Between (walk [] (ns ++ ls ++ ms))
+features_between ns ls ms namespace levels imports named included imported =
+    let after_namespace = namespace_passed ns namespace named in
+    let after_include = section_passed word.Include Include refl SpellsLevel (level_kept Include) (walk [] ns) ls levels after_namespace included in
+    let after_imports = section_passed word.Imports Imports refl SpellsImport (import_kept Imports) (walk (walk [] ns) ls) ms imports after_include imported in
+    subst Between (sym (walk_append [] (ns ++ ls) ms ∙ ap (λ b. walk b ms) (walk_append [] ns ls))) after_imports

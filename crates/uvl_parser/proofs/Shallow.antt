@@ -3,20 +3,21 @@ use Rattle.std.specs.Prelude.{◌≡◌, ℕ, ◌+◌, Bool, true, false, List, 
 use Rattle.std.proofs.Common.{refl, sym, ap, subst, ◌∙◌, append_assoc}
 use Rattle.std.proofs.lemmas.List.{reverse-append, take-append-drop}
 use Rattle.std.proofs.Math.Seq.{take-append_seam}
+use Rattle.uvl_base.specs.declared.fault.FaultKind.{FaultKind}
 use Rattle.uvl_base.specs.declared.fault.FaultKind.TheVariants.{TooDeep}
 use Rattle.uvl_lexer.specs.declared.token.Token.{Token}
 use Rattle.uvl_lexer.specs.declared.token.Word.TheVariants as word
 use Rattle.uvl_ast.specs.declared.feature.Feature.{Feature}
 use Rattle.uvl_ast.specs.declared.file.File.{File}
-use Rattle.uvl_profile.specs.declared.section.Section.TheVariants.{Include, Imports, Features}
+use Rattle.uvl_profile.specs.declared.section.Section.TheVariants.{Features}
 use Rattle.uvl_parser.specs.Features.{FeatureWithin}
-use Rattle.uvl_parser.specs.Sections.{SpellsLevel, SpellsImport, SpellsFeatures, No_features, Root}
+use Rattle.uvl_parser.specs.Sections.{SpellsFeatures, No_features, Root}
 use Rattle.uvl_parser.specs.File.{Spells, A_file}
 use Rattle.uvl_parser.specs.Dead.{Dead}
-use Rattle.uvl_parser.specs.Named.{in_front, Where_alive, Deep, NoneNamed}
-use Rattle.uvl_parser.proofs.Walking.{walk, walk_append, Clear, clear_front, clear_back}
+use Rattle.uvl_parser.specs.Named.{IsMetAlive, in_front, Where_alive, Deep, NoneNamed}
+use Rattle.uvl_parser.proofs.Walking.{walk, Clear, clear_front, clear_back}
 use Rattle.uvl_parser.proofs.Depths.{deep, feature_passes}
-use Rattle.uvl_parser.proofs.Sectioned.{Between, body_begins, level_kept, import_kept, section_passed, namespace_passed}
+use Rattle.uvl_parser.proofs.Sectioned.{Between, body_begins, features_between}
 
 -- ---- a spelled list has no dead token
 
@@ -25,32 +26,34 @@ pub spelled_alive : (tokens : List Token) (file : File) (k : ℕ) → Spells tok
 spelled_alive tokens file k spelled dead =
     dead (drop (k + 1) tokens) file (subst (λ ts. Spells ts file) (sym (take-append-drop (k + 1) tokens)) spelled)
 
--- ---- where nothing is named, no feature is too deep
+-- ---- where nothing is named, nothing is met
 
 -- the token behind a front
 pub token_behind : (front : List Token) (t : Token) (rest : List Token) → slice_get (front ++ t ∷ rest) (length front) ≡ Some t
 token_behind [] t rest = refl
 token_behind (u ∷ front) t rest = token_behind front t rest
 
-module _ (tokens : List Token) (file : File) (spelled : Spells tokens file) (none : (k : ℕ) → NoneNamed tokens k) where
-  not_deep : (front : List Token) (t : Token) (rest : List Token) → tokens ≡ front ++ t ∷ rest → (b : Bool) → deep (reverse front) t ≡ b → b ≡ false
-  not_deep front t rest joins false is = refl
-  not_deep front t rest joins true is =
+-- a fault that is met only where a token may stand
+module _ (met : List Token → Token → Bool) (kind : FaultKind) (meets : (before : List Token) (t : Token) → met before t ≡ true → IsMetAlive before t kind)
+    (tokens : List Token) (file : File) (spelled : Spells tokens file) (none : (k : ℕ) → NoneNamed tokens k) where
+  not_met : (front : List Token) (t : Token) (rest : List Token) → tokens ≡ front ++ t ∷ rest → (b : Bool) → met (reverse front) t ≡ b → b ≡ false
+  not_met front t rest joins false is = refl
+  not_met front t rest joins true is =
       let k = length front in
       let here : slice_get tokens k ≡ Some t = ap (λ ts. slice_get ts k) joins ∙ token_behind front t rest in
       let before : in_front k tokens ≡ reverse front = ap reverse (ap (take k) joins ∙ take-append_seam front (t ∷ rest)) in
-      let met = ap (λ b. deep b t) before ∙ is in
-      absurd (none k TooDeep (Where_alive t here (Deep met) (spelled_alive tokens file k spelled)))
+      let is_met = ap (λ b. met b t) before ∙ is in
+      absurd (none k kind (Where_alive t here (meets (in_front k tokens) t is_met) (spelled_alive tokens file k spelled)))
 
-  clear_from : (front rest : List Token) → tokens ≡ front ++ rest → Clear deep (reverse front) rest
+  clear_from : (front rest : List Token) → tokens ≡ front ++ rest → Clear met (reverse front) rest
   clear_from front [] joins = tt
   clear_from front (t ∷ rest) joins =
       let more : tokens ≡ (front ++ t ∷ []) ++ rest = joins ∙ sym (append_assoc front (t ∷ []) rest) in (
-        not_deep front t rest joins (deep (reverse front) t) refl,
-        subst (λ b. Clear deep b rest) (reverse-append front (t ∷ [])) (clear_from (front ++ t ∷ []) rest more),
+        not_met front t rest joins (met (reverse front) t) refl,
+        subst (λ b. Clear met b rest) (reverse-append front (t ∷ [])) (clear_from (front ++ t ∷ []) rest more),
       )
 
-  all_clear : Clear deep [] tokens
+  pub all_clear : Clear met [] tokens
   all_clear = clear_from [] tokens refl
 
 -- ---- the root
@@ -69,11 +72,8 @@ root_shallow before fs root between clear (Root t newline indent dedent {xs} is 
 
 pub file_shallow : (tokens : List Token) (file : File) → Spells tokens file → ((k : ℕ) → NoneNamed tokens k) → IsShallow file.root
 file_shallow tokens file (A_file {ns} {ls} {ms} {fs} {rs} finish {root} named included imported tree ruled is) none =
-    let all = all_clear tokens file (A_file finish named included imported tree ruled is) none in
+    let all = all_clear deep TooDeep (λ before t met. Deep met) tokens file (A_file finish named included imported tree ruled is) none in
     let front = ns ++ ls ++ ms in
     let clear_fs = clear_back deep [] front fs (clear_front deep [] (front ++ fs) rs (clear_front deep [] (front ++ fs ++ rs) (finish ∷ []) all)) in
-    let after_namespace = namespace_passed ns _ named in
-    let after_include = section_passed word.Include Include refl SpellsLevel (level_kept Include) (walk [] ns) ls _ after_namespace included in
-    let after_imports = section_passed word.Imports Imports refl SpellsImport (import_kept Imports) (walk (walk [] ns) ls) ms _ after_include imported in
-    let here = walk_append [] (ns ++ ls) ms ∙ ap (λ b. walk b ms) (walk_append [] ns ls) in
-    root_shallow (walk [] front) fs root (subst Between (sym here) after_imports) clear_fs tree
+    let between = features_between ns ls ms _ _ _ named included imported in
+    root_shallow (walk [] front) fs root between clear_fs tree

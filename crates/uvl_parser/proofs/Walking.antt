@@ -5,11 +5,12 @@ use Rattle.std.proofs.lemmas.Bool.{le-ltb}
 use Rattle.uvl_lexer.specs.declared.token.Token.{Token}
 use Rattle.uvl_lexer.specs.declared.token.TokenKind.{TokenKind}
 use Rattle.uvl_lexer.specs.declared.token.TokenKind.TheVariants as token
+use Rattle.uvl_lexer.specs.declared.token.Symbol.TheVariants as symbol
 use Rattle.uvl_profile.specs.declared.section.Section.{Section}
 use Rattle.uvl_profile.specs.declared.section.SectionPart.TheVariants.{Outside, Body}
 use Rattle.uvl_parser.specs.Tests.{is_newline, is_indent, is_dedent}
-use Rattle.uvl_parser.specs.Tokens.{IsNewline, IsIndent, IsDedent}
-use Rattle.uvl_parser.specs.Shapes.{Spelling, Repeated, None_more, One_more, OneOrMore, First}
+use Rattle.uvl_parser.specs.Tokens.{IsSymbol, IsNewline, IsIndent, IsDedent}
+use Rattle.uvl_parser.specs.Shapes.{Spelling, Repeated, None_more, One_more, OneOrMore, First, BehindComma, Comma, Separated, Nothing, Parts}
 use Rattle.uvl_profile.specs.Lines.{is_line_mark, begins_line}
 use Rattle.uvl_profile.specs.Sections.{part_behind, part_of}
 
@@ -124,6 +125,21 @@ module _ {A : Type 0} (met : List Token → Token → Bool) (At : List Token →
       let one = step before xs a here (clear_front met before xs ys clear) r in
       let more = repeated_passes (walk before xs) ys rest one.1 (clear_back met before xs ys clear) rs in
       (First one.0 more.0, subst At (sym (walk_append before xs ys)) more.1)
+
+-- parts with commas between them
+module _ {A : Type 0} (met : List Token → Token → Bool) (At : List Token → Type 0) (R S : Spelling A) (step : Passes met At R S)
+    (comma_step : (before : List Token) (comma : Token) → At before → IsSymbol symbol.Comma comma → At (comma ∷ before)) where
+  behind_comma_passes : Passes met At (BehindComma R) (BehindComma S)
+  behind_comma_passes before ts a here clear (Comma comma {xs} is r) =
+      let one = step (comma ∷ before) xs a (comma_step before comma here is) clear.1 r in
+      (Comma comma is one.0, one.1)
+
+  pub separated_passes : Passes met At (Separated R) (Separated S)
+  separated_passes before ts items here clear Nothing = (Nothing, here)
+  separated_passes before ts items here clear (Parts {xs} {ys} {a} {items = rest} r rs) =
+      let one = step before xs a here (clear_front met before xs ys clear) r in
+      let more = repeated_passes met At (BehindComma R) (BehindComma S) behind_comma_passes (walk before xs) ys rest one.1 (clear_back met before xs ys clear) rs in
+      (Parts one.0 more.0, subst At (sym (walk_append before xs ys)) more.1)
 
 pub in_line_append : (xs ys : List Token) → InLine xs → InLine ys → InLine (xs ++ ys)
 in_line_append [] ys x y = y

@@ -20,7 +20,9 @@ mod tokens;
 mod values;
 
 pub use fault::ParseFault;
-pub use law::{every_token_list_is_parsed_once, every_token_list_spells_one_file};
+pub use law::{
+    every_token_list_is_parsed_once, every_token_list_spells_one_file, nodes_are_counted_by_tokens,
+};
 pub use parser::parse;
 
 #[cfg(test)]

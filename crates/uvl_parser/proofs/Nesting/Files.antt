@@ -11,7 +11,7 @@ use Rattle.uvl_ast.specs.declared.expression.Expr.{Expr}
 use Rattle.uvl_ast.specs.declared.feature.Feature.{Feature}
 use Rattle.uvl_ast.specs.declared.file.File.{File}
 use Rattle.uvl_ast.specs.Nesting.{EachValueNests}
-use Rattle.uvl_ast.specs.Operands.{rules_of_root, EachRuleStandsWithin}
+use Rattle.uvl_ast.specs.Rules.{all_rules_of_root, EachRule}
 use Rattle.uvl_parser.specs.Sections.{SpellsSection, No_section, Lines, SpellsFeatures, No_features, Root, SpellsRule, Rule}
 use Rattle.uvl_parser.specs.File.{Spells, A_file}
 use Rattle.uvl_parser.specs.Named.{NoneNamed}
@@ -45,7 +45,7 @@ rules_stand w before rs rules clear (Lines t newline {xs} is ends body) =
 
 -- ---- files
 
-rules_in_braces : (root : Option Feature) → RootNests root → All (StandsWithin 516) (rules_of_root root)
+rules_in_braces : (root : Option Feature) → RootNests root → All (StandsWithin 516) (all_rules_of_root root)
 rules_in_braces None nests = All-nil (StandsWithin 516)
 rules_in_braces (Some root) nests = nests.1
 
@@ -59,11 +59,11 @@ file_nested tokens file (A_file {ns} {ls} {ms} {fs} {rs} finish {root} named inc
     let clear = clear_front over [] (front ++ fs) rs (clear_front over [] (front ++ fs ++ rs) (finish ∷ []) (never_over tokens none)) in
     values_in_braces root (root_nests (walk [] front) fs root (clear_back over [] front fs clear) tree)
 
-pub file_grouped : (tokens : List Token) (file : File) → Spells tokens file → ((k : ℕ) → NoneNamed tokens k) → EachRuleStandsWithin 516 file
+pub file_grouped : (tokens : List Token) (file : File) → Spells tokens file → ((k : ℕ) → NoneNamed tokens k) → EachRule (StandsWithin 516) file
 file_grouped tokens file (A_file {ns} {ls} {ms} {fs} {rs} finish {root} {rules} named included imported tree ruled is) none =
     let front = ns ++ ls ++ ms in
     let all = clear_front over [] (front ++ fs ++ rs) (finish ∷ []) (never_over tokens none) in
     let clear = clear_front over [] (front ++ fs) rs all in
     let braced = rules_in_braces root (root_nests (walk [] front) fs root (clear_back over [] front fs clear) tree) in
     let lines = rules_stand word.Constraints (walk [] (front ++ fs)) rs rules (clear_back over [] (front ++ fs) rs all) ruled in
-    All-append (StandsWithin 516) (rules_of_root root) rules braced lines
+    All-append (StandsWithin 516) (all_rules_of_root root) rules braced lines

@@ -13,7 +13,7 @@ use Rattle.uvl_ast.specs.declared.feature.Group.{Group, roll-Group}
 use Rattle.uvl_ast.specs.declared.feature.Feature.TheOpen.{Feature-F, Group-F}
 use Rattle.uvl_ast.specs.declared.feature.Feature.TheFolds.{fold-roll-Feature, fold-roll-Group}
 use Rattle.uvl_ast.specs.Nesting.{feature_attributes, group_attributes, all_attributes, all_attributes_of_group}
-use Rattle.uvl_ast.specs.Operands.{feature_rules, group_rules, all_rules, all_rules_of_group}
+use Rattle.uvl_ast.specs.Rules.{feature_rules, group_rules, all_rules, all_rules_of_group}
 use Rattle.uvl_parser.specs.declared.braces.Entry.{Entry}
 use Rattle.uvl_parser.specs.declared.braces.Entry.TheVariants.{Plain, Rule, Rules}
 use Rattle.uvl_parser.specs.Tokens.{IsIndent, IsDedent, IsNewline}

@@ -36,11 +36,12 @@ depth_in r = fold-roll-Group ℕ ℕ feature_depth group_depth r
 abbrev IsSome : ℕ → Type 0
 IsSome count = 1 ≤ count
 
-repeated_counts : {A : Type 0} (R : Spelling A) (c : A → List ℕ) → ((xs : List Token) (v : A) → R xs v → All IsSome (c v))
-    → {ys : List Token} {items : List A} → Repeated R ys items → All IsSome (flat_map (λ counts. counts) (map c items))
-repeated_counts R c h None_more = All-from_recursion IsSome [] tt
-repeated_counts R c h (One_more {xs} {ys} {a} {items} r rs) =
-    All-append IsSome (c a) (flat_map (λ counts. counts) (map c items)) (h xs a r) (repeated_counts R c h rs)
+-- what holds of each of the items that every part has holds of each of all of them
+pub repeated_all : {A B : Type 0} (P : B → Type 0) (R : Spelling A) (c : A → List B) → ((xs : List Token) (v : A) → R xs v → All P (c v))
+    → {ys : List Token} {items : List A} → Repeated R ys items → All P (flat_map (λ parts. parts) (map c items))
+repeated_all P R c h None_more = All-from_recursion P [] tt
+repeated_all P R c h (One_more {xs} {ys} {a} {items} r rs) =
+    All-append P (c a) (flat_map (λ parts. parts) (map c items)) (h xs a r) (repeated_all P R c h rs)
 
 repeated_depth : {A : Type 0} (R : Spelling A) (c : A → ℕ) (n : ℕ) → ((xs : List Token) (v : A) → R xs v → c v ≤ n)
     → {ys : List Token} {items : List A} → Repeated R ys items → greatest (map c items) ≤ n
@@ -59,7 +60,7 @@ module _ (Member : Spelling Feature) (n : ℕ) (counted : (xs : List Token) (f :
   members_counts ys members (First {xs = us} {ys = vs} {a} {items} r rs) =
       let here : All IsSome (length (a ∷ items) ∷ []) = All-from_recursion IsSome (length (a ∷ items) ∷ []) (omega arith, tt) in
       All-append IsSome (length (a ∷ items) ∷ []) (flat_map (λ counts. counts) (map member_counts (a ∷ items))) here
-      (repeated_counts Member member_counts counted (One_more r rs))
+      (repeated_all IsSome Member member_counts counted (One_more r rs))
 
   members_depth : (ys : List Token) (members : List Feature) → OneOrMore Member ys members → greatest (map depth_of members) ≤ n
   members_depth ys members (First r rs) = repeated_depth Member depth_of n deep (One_more r rs)
@@ -76,7 +77,7 @@ module _ (Member : Spelling Feature) (n : ℕ) (counted : (xs : List Token) (f :
       → All IsSome (flat_map (λ counts. counts) (map member_counts_of_group groups))
   body_counted zs groups No_body = All-from_recursion IsSome [] tt
   body_counted zs groups (Indented indent dedent opens (First r rs) closes) =
-      repeated_counts (SpellsGroup Member) member_counts_of_group group_counted (One_more r rs)
+      repeated_all IsSome (SpellsGroup Member) member_counts_of_group group_counted (One_more r rs)
 
   body_deep : (zs : List Token) (groups : List Group) → Body (SpellsGroup Member) zs groups → greatest (map depth_of_group groups) ≤ n
   body_deep zs groups No_body = omega arith

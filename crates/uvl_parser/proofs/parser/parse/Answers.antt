@@ -1,5 +1,5 @@
 -- The clauses of a caller follow from those of reading.
-use Rattle.uvl_parser.proofs.Answers.{never_refused, never_read, shallow, members, nested, grouped}
+use Rattle.uvl_parser.proofs.Answers.{never_refused, never_read, shallow, members, nested, nodes, grouped}
 use Rattle.uvl_parser.proofs.parser.parse.Goals as goal
 
 pub returns-clause-never_refused : goal.returns-clause-never_refused
@@ -19,3 +19,6 @@ returns-clause-nested c = nested c.args.tokens.now c.parse_tokens.result c.parse
 
 pub returns-clause-grouped : goal.returns-clause-grouped
 returns-clause-grouped c = grouped c.args.tokens.now c.parse_tokens.result c.parse_tokens.ensures.file
+
+pub returns-clause-nodes : goal.returns-clause-nodes
+returns-clause-nodes c = nodes c.args.tokens.now c.parse_tokens.result c.parse_tokens.ensures.file
