@@ -3,13 +3,14 @@ ghost use Rattle.std.specs.Prelude.{◌≡◌, Ok, Err};
 ghost use Rattle.uvl_parser.specs.Reading.{Gives};
 ghost use Rattle.uvl_parser.specs.Readers.File.{file};
 
-use crate::include_lines::levels;
+use crate::lines::section;
 use crate::reading::Stop;
-use crate::sections::{constraints, features, imports, namespace};
+use crate::sections::{features, namespace};
 use crate::tokens::finish;
 use std::alloc::Global;
-use uvl_ast::File;
-use uvl_lexer::Token;
+use uvl_ast::{Expr, File, Import};
+use uvl_base::Text;
+use uvl_lexer::{Token, Word};
 
 /// Reads a file.
 #[tactic(auto, unfolding(crate::specs::Readers::File::file, crate::specs::Reading::bind, crate::specs::Reading::done))]
@@ -17,10 +18,10 @@ pub(crate) fn file(alloc: Global, tokens: &[Token]) -> Result<(File, &[Token]), 
     ensures { Gives (λ r. (r.0, r.1.now)) result (file tokens.now) }
 {
     let (namespace, rest) = namespace(alloc, tokens)?;
-    let (levels, rest) = levels(alloc, rest)?;
-    let (imports, rest) = imports(alloc, rest)?;
+    let (levels, rest) = section::<Text>(alloc, Word::Include, rest)?;
+    let (imports, rest) = section::<Import>(alloc, Word::Imports, rest)?;
     let (root, rest) = features(alloc, rest)?;
-    let (rules, rest) = constraints(alloc, rest)?;
+    let (rules, rest) = section::<Expr>(alloc, Word::Constraints, rest)?;
     let (finish, rest) = finish(rest)?;
     Ok((
         File {

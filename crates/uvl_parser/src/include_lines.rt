@@ -2,16 +2,15 @@
 ghost use Rattle.std.specs.Prelude.{◌≡◌, ◌++◌, Ok, Err, IfOk, OnOk, chars, string_bytes};
 ghost use Rattle.std.specs.Option.{option_map};
 ghost use Rattle.uvl_lexer.specs.declared.token.TokenKind.TheVariants as token;
-ghost use Rattle.uvl_lexer.specs.declared.token.Word.TheVariants.{Include};
-ghost use Rattle.uvl_parser.specs.Tests.{stays, begins};
+ghost use Rattle.uvl_parser.specs.Tests.{begins};
 ghost use Rattle.uvl_parser.specs.Sections.{level_part, written_name};
-ghost use Rattle.uvl_parser.specs.Reading.{Gives, many, one_or_more, body, with_front};
-ghost use Rattle.uvl_parser.specs.Readers.Sections.{section, level, level_token, is_level_part};
+ghost use Rattle.uvl_parser.specs.Reading.{Gives, many};
+ghost use Rattle.uvl_parser.specs.Readers.Sections.{level, level_token, is_level_part};
 ghost use Rattle.uvl_parser.specs.Readers.Levels.{text_onto, texts_onto, line_text, level_text, Pushes};
 
+use crate::lines::SectionLine;
 use crate::reading::Stop;
-use crate::tokens::{begins_with_indent, begins_with_word, dedent, indent, newline, stays, word};
-use sqlite_items::Items;
+use crate::tokens::newline;
 use std::alloc::{AllocError, Global};
 use uvl_base::Text;
 use uvl_lexer::{Symbol, Token, TokenKind, Word};
@@ -156,70 +155,11 @@ fn level_text(alloc: Global, tokens: &[Token]) -> Result<(Text, &[Token]), Stop>
     Ok((Text::from(text), rest))
 }
 
-/// Reads a line of `include`.
-fn level(alloc: Global, tokens: &[Token]) -> Result<(Text, &[Token]), Stop>
-    ensures { Gives (λ r. (r.0, r.1.now)) result (level tokens.now) }
-{
-    level_text(alloc, tokens)
-}
+/// A line of `include`: `level Newline`.
+impl SectionLine for Text {
+    ghost reader = { level };
 
-/// Reads lines of `include` as long as the level of indentation goes on.
-fn more_levels<'a>(
-    alloc: Global,
-    levels: &mut Items<Text>,
-    tokens: &'a [Token],
-) -> Result<&'a [Token], Stop>
-    ensures { Gives (λ rest. (levels.new, rest.now)) result (with_front levels.old (many stays level tokens.now)) }
-{
-    let mut rest = tokens;
-    for _turn in 0..tokens.len() {
-        if !stays(rest) {
-            return Ok(rest);
-        }
-        let (next, behind) = level(alloc, rest)?;
-        levels.push(next)?;
-        rest = behind;
-    }
-    Ok(rest)
-}
-
-/// Reads one or more lines of `include`.
-#[tactic(auto, unfolding(crate::specs::Reading::one_or_more, crate::specs::Reading::bind, crate::specs::Reading::done))]
-fn some_levels(alloc: Global, tokens: &[Token]) -> Result<(Items<Text>, &[Token]), Stop>
-    ensures { Gives (λ r. (r.0, r.1.now)) result (one_or_more stays level tokens.now) }
-{
-    let (first, rest) = level(alloc, tokens)?;
-    let mut levels = Items::new(alloc);
-    levels.push(first)?;
-    let rest = more_levels(alloc, &mut levels, rest)?;
-    Ok((levels, rest))
-}
-
-/// Reads lines of `include` that are indented by a level, or nothing.
-#[tactic(auto, unfolding(crate::specs::Reading::body, crate::specs::Reading::choose, crate::specs::Reading::bind, crate::specs::Reading::done))]
-fn level_body(alloc: Global, tokens: &[Token]) -> Result<(Items<Text>, &[Token]), Stop>
-    ensures { Gives (λ r. (r.0, r.1.now)) result (body level tokens.now) }
-{
-    if begins_with_indent(tokens) {
-        let (_, rest) = indent(tokens)?;
-        let (levels, rest) = some_levels(alloc, rest)?;
-        let (_, rest) = dedent(rest)?;
-        Ok((levels, rest))
-    } else {
-        Ok((Items::new(alloc), tokens))
-    }
-}
-
-/// Reads `include = "include" Newline (Indent (level Newline)+ Dedent)?`, where it stands.
-#[tactic(auto, unfolding(crate::specs::Readers::Sections::section, crate::specs::Reading::choose, crate::specs::Reading::bind, crate::specs::Reading::done))]
-pub(crate) fn levels(alloc: Global, tokens: &[Token]) -> Result<(Items<Text>, &[Token]), Stop>
-    ensures { Gives (λ r. (r.0, r.1.now)) result (section Include level tokens.now) }
-{
-    if begins_with_word(tokens, Word::Include) {
-        let (_, rest) = word(tokens, Word::Include)?;
-        let (_, rest) = newline(rest)?;
-        level_body(alloc, rest)
-    } else {
-        Ok((Items::new(alloc), tokens))
+    fn line(alloc: Global, tokens: &[Token]) -> Result<(Text, &[Token]), Stop> {
+        level_text(alloc, tokens)
     }
 }

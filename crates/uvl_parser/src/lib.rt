@@ -10,6 +10,7 @@ mod file;
 mod groups;
 mod include_lines;
 mod law;
+mod lines;
 mod named;
 mod number;
 mod parser;
