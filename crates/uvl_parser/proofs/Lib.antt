@@ -4,6 +4,9 @@ pub mod Walking
 pub mod Inline
 pub mod Depths
 pub mod Sectioned
+pub mod Clearing
+pub mod ClearFiles
+pub mod Deep
 pub mod Shallow
 pub mod Nesting
 pub mod Parsed

@@ -6,3 +6,6 @@ pub mod Limits
 pub mod Lines
 pub mod Entries
 pub mod Trees
+pub mod Outside
+pub mod Braces
+pub mod Clear

@@ -111,7 +111,7 @@ section_passed w s named Line kept before zs items between (Lines t newline is e
     subst Between (sym (walk_append before (t ∷ newline ∷ indent ∷ xs) (dedent ∷ []))) (closed s (walk front xs) dedent passed.1.part closes)
 
 -- in the line of `namespace` nothing begins a section
-outside_in_line : (before xs : List Token) → part_of before ≡ Outside → begins_line before ≡ false → InLine xs
+pub outside_in_line : (before xs : List Token) → part_of before ≡ Outside → begins_line before ≡ false → InLine xs
     → (part_of (walk before xs) ≡ Outside) × (begins_line (walk before xs) ≡ false)
 outside_in_line before [] part first inline = (part, first)
 outside_in_line before (t ∷ ts) part first inline =

@@ -8,7 +8,7 @@ use Rattle.uvl_lexer.specs.declared.token.TokenKind.TheVariants as token
 use Rattle.uvl_lexer.specs.declared.token.Symbol.TheVariants as symbol
 use Rattle.uvl_profile.specs.declared.section.Section.{Section}
 use Rattle.uvl_profile.specs.declared.section.SectionPart.TheVariants.{Outside, Body}
-use Rattle.uvl_parser.specs.Tests.{is_newline, is_indent, is_dedent}
+use Rattle.uvl_parser.specs.Tests.{Test, is_newline, is_indent, is_dedent}
 use Rattle.uvl_parser.specs.Tokens.{IsSymbol, IsNewline, IsIndent, IsDedent}
 use Rattle.uvl_parser.specs.Shapes.{Spelling, Repeated, None_more, One_more, OneOrMore, First, BehindComma, Comma, Separated, Nothing, Parts}
 use Rattle.uvl_profile.specs.Lines.{is_line_mark, begins_line}
@@ -36,10 +36,14 @@ pub clear_back : (met : List Token → Token → Bool) (before xs ys : List Toke
 clear_back met before [] ys clear = clear
 clear_back met before (x ∷ xs) ys clear = clear_back met (x ∷ before) xs ys clear.1
 
+-- no token passes a test
+abbrev pub NonePasses : Test → List Token → Type 0
+NonePasses test [] = Unit {0}
+NonePasses test (t ∷ ts) = (test t.kind ≡ false) × NonePasses test ts
+
 -- no token is a mark between lines
 abbrev pub InLine : List Token → Type 0
-InLine [] = Unit {0}
-InLine (t ∷ ts) = (is_line_mark t.kind ≡ false) × InLine ts
+InLine xs = NonePasses is_line_mark xs
 
 -- ---- the part of a section behind tokens
 
@@ -141,6 +145,9 @@ module _ {A : Type 0} (met : List Token → Token → Bool) (At : List Token →
       let more = repeated_passes met At (BehindComma R) (BehindComma S) behind_comma_passes (walk before xs) ys rest one.1 (clear_back met before xs ys clear) rs in
       (Parts one.0 more.0, subst At (sym (walk_append before xs ys)) more.1)
 
+pub none_append : (test : Test) (xs ys : List Token) → NonePasses test xs → NonePasses test ys → NonePasses test (xs ++ ys)
+none_append test [] ys x y = y
+none_append test (t ∷ xs) ys x y = (x.0, none_append test xs ys x.1 y)
+
 pub in_line_append : (xs ys : List Token) → InLine xs → InLine ys → InLine (xs ++ ys)
-in_line_append [] ys x y = y
-in_line_append (t ∷ xs) ys x y = (x.0, in_line_append xs ys x.1 y)
+in_line_append = none_append is_line_mark

@@ -24,7 +24,7 @@ use Rattle.uvl_parser.specs.Expressions.{Operators, Grouped, Connected, SpellsPr
 use Rattle.uvl_profile.specs.Nesting.{one_if}
 use Rattle.uvl_profile.specs.Rules.{ends_number, behind_sign, behind_sum, is_operator, is_node}
 use Rattle.uvl_parser.specs.Law.{nodes_among}
-use Rattle.uvl_parser.proofs.Walking.{walk, walk_append}
+use Rattle.uvl_parser.proofs.Walking.{walk, walk_append, NonePasses, none_append}
 use Rattle.uvl_parser.proofs.Nodes.Kinds.{leaves_rule, name_node, number_node, operator_node, name_ends, number_ends, name_stays, number_stays, operator_stays, operator_no_paren, operator_no_end, operator_no_dot, operator_no_sum, AreOperators, iff_operators, implies_operators, or_operators, and_operators, comparison_operators, sum_operators, product_operators}
 
 -- ---- the nodes of a tree
@@ -48,12 +48,7 @@ nodes_binary o left right p = ap nodes_of (sym (rolls-Binary o left right p)) �
 
 -- no token ends a rule, and behind none may a rule begin
 abbrev pub AllStay : List Token → Type 0
-AllStay [] = Unit {0}
-AllStay (t ∷ ts) = (leaves_rule t.kind ≡ false) × AllStay ts
-
-stays_append : (xs ys : List Token) → AllStay xs → AllStay ys → AllStay (xs ++ ys)
-stays_append [] ys x y = y
-stays_append (t ∷ xs) ys x y = (x.0, stays_append xs ys x.1 y)
+AllStay xs = NonePasses leaves_rule xs
 
 nodes_append : (before xs ys : List Token) → nodes_among before (xs ++ ys) ≡ nodes_among before xs + nodes_among (walk before xs) ys
 nodes_append before [] ys = omega arith
@@ -88,7 +83,7 @@ behind : (before xs ys : List Token) (m n : ℕ) → Counted before xs m → Cou
 behind before xs ys m n c d = record {
   nodes = nodes_append before xs ys ∙ ap (λ k. k + nodes_among (walk before xs) ys) c.nodes ∙ ap (λ k. m + k) d.nodes;
   ends = ap (begins ends_number) (walk_append before xs ys) ∙ d.ends;
-  stays = stays_append xs ys c.stays d.stays;
+  stays = none_append leaves_rule xs ys c.stays d.stays;
 }
 
 -- ---- where an operand begins

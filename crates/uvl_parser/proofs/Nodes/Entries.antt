@@ -37,24 +37,24 @@ in_features n before here = ap (belongs Features) here
 
 -- ---- a rule behind `constraint`
 
-constraint_behind : (n : ℕ) (before : List Token) (t : Token) → InFeatures n before → IsWord word.Constraint t → rule_behind before t ≡ true
+pub constraint_behind : (n : ℕ) (before : List Token) (t : Token) → InFeatures n before → IsWord word.Constraint t → rule_behind before t ≡ true
 constraint_behind n before t here is = begins_by_word before t (ap (is_word word.Constraint) is) (in_features n before here)
 
 -- ---- rules in the brackets of a list
 
 -- what follows stands in such brackets
-abbrev InList : List Token → Type 0
+abbrev pub InList : List Token → Type 0
 InList before = in_list before ≡ true
 
 -- a list goes on behind what doesn't end it
-list_stays : (before : List Token) (t : Token) → InList before → is_symbol symbol.RightBracket t.kind ≡ false → is_line_mark t.kind ≡ false
+pub list_stays : (before : List Token) (t : Token) → InList before → is_symbol symbol.RightBracket t.kind ≡ false → is_line_mark t.kind ≡ false
     → InList (t ∷ before)
 list_stays before t here bracket mark =
     let unclosed = in_list before && not (is_symbol symbol.RightBracket t.kind) in
     or_right (opens_list before t.kind) (unclosed && not (is_line_mark t.kind))
     (and_from unclosed (not (is_line_mark t.kind)) (and_from (in_list before) (not (is_symbol symbol.RightBracket t.kind)) here (ap not bracket)) (ap not mark))
 
-rule_in_list : (before xs : List Token) → InList before → AllStay xs → InList (walk before xs)
+pub rule_in_list : (before xs : List Token) → InList before → AllStay xs → InList (walk before xs)
 rule_in_list before [] here stays = here
 rule_in_list before (t ∷ ts) here stays =
     let kind = stays_in_rule t.kind stays.0 in
@@ -73,18 +73,22 @@ next_few before ts e here clear (Comma comma {xs} is spelled) =
     let begins = begins_by_comma before comma (ap (is_symbol symbol.Comma) is) here in
     listed_few before comma xs e begins (list_stays before comma here (ap (is_symbol symbol.RightBracket) is) (ap is_line_mark is)) spelled clear.1
 
+pub list_opened : (before : List Token) (t : Token) → opens_list before t.kind ≡ true → InList (t ∷ before)
+list_opened before t opens =
+    or_left (opens_list before t.kind) (in_list before && not (is_symbol symbol.RightBracket t.kind) && not (is_line_mark t.kind)) opens
+
 list_few : (before : List Token) (left : Token) (xs : List Token) (es : List Expr) → opens_list before left.kind ≡ true
     → Clear too_many (left ∷ before) xs → Separated SpellsExpr xs es → All HasFewNodes es
 list_few before left ts es opens clear Nothing = All-nil HasFewNodes
 list_few before left ts es opens clear (Parts {xs} {ys} {a} {items} r rs) =
-    let here = or_left (opens_list before left.kind) (in_list before && not (is_symbol symbol.RightBracket left.kind) && not (is_line_mark left.kind)) opens in
+    let here = list_opened before left opens in
     let one = listed_few before left xs a (begins_by_list before left opens) here r (clear_front too_many (left ∷ before) xs ys clear) in
     let more = repeated_passes too_many InList (BehindComma SpellsExpr) Few next_few (walk (left ∷ before) xs) ys items one.1
     (clear_back too_many (left ∷ before) xs ys clear) rs in
     All-cons HasFewNodes a items one.0 (each_few more.0)
 
 -- `constraints` and a bracket in braces open a list
-list_behind : (n : ℕ) (before : List Token) (t left : Token) → InFeatures n before → IsWord word.Constraints t → IsSymbol symbol.LeftBracket left
+pub list_behind : (n : ℕ) (before : List Token) (t left : Token) → InFeatures n before → IsWord word.Constraints t → IsSymbol symbol.LeftBracket left
     → opens_list (t ∷ before) left.kind ≡ true
 list_behind n before t left here is opens =
     let behind = in_line_of_body Features n before (t ∷ []) here (ap is_line_mark is, tt) in

@@ -31,7 +31,7 @@ each_few None_more = All-nil HasFewNodes
 each_few (One_more {a} {items} r rs) = All-cons HasFewNodes a items r (each_few rs)
 
 -- a rule begins where a line of constraints does
-line_behind : (before : List Token) (t : Token) → LineBegins Constraints 1 (t ∷ before) → rule_behind before t ≡ true
+pub line_behind : (before : List Token) (t : Token) → LineBegins Constraints 1 (t ∷ before) → rule_behind before t ≡ true
 line_behind before t here = begins_by_line before t here.begins (ap (belongs Constraints) here.part)
 
 rule_few : Passes too_many (LineBegins Constraints 1) SpellsRule Few

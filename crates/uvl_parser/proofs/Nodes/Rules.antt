@@ -1,7 +1,7 @@
 -- Behind the tokens of an expression with which a rule begins, as many nodes are counted as its tree has.
 use Rattle.std.specs.Prelude.{◌≡◌, ℕ, ◌+◌, Bool, true, false, not, ◌&&◌, ◌||◌, cond, List, [], ◌∷◌, ◌++◌, reverse, Some, None}
 use Rattle.std.proofs.Common.{refl, sym, ap, ◌∙◌, arith, append_assoc, zero-add}
-use Rattle.std.proofs.lemmas.Bool.{and_from, or_left, or_right}
+use Rattle.std.proofs.lemmas.Bool.{and_from, and_left, or_left, or_right, or_from}
 use Rattle.std.proofs.lemmas.List.{reverse-append}
 use Rattle.uvl_lexer.specs.declared.token.Token.{Token}
 use Rattle.uvl_lexer.specs.declared.token.TokenKind.{TokenKind}
@@ -25,13 +25,16 @@ use Rattle.uvl_parser.proofs.Nodes.Counting.{AllStay, OperandBegins, expression_
 -- ---- the four ways in which a rule begins
 
 module _ (before : List Token) (t : Token) where
-  abbrev by_line : Bool
+  -- behind a mark between lines of the constraints section
+  abbrev pub by_line : Bool
   by_line = is_line_mark t.kind && is_in Constraints (t ∷ before)
 
-  abbrev by_word : Bool
+  -- behind the word `constraint`
+  abbrev pub by_word : Bool
   by_word = is_word word.Constraint t.kind && is_in Features before
 
-  abbrev by_comma : Bool
+  -- behind a comma between the rules of a list
+  abbrev pub by_comma : Bool
   by_comma = is_symbol symbol.Comma t.kind && in_list before
 
   pub begins_by_line : is_line_mark t.kind ≡ true → is_in Constraints (t ∷ before) ≡ true → rule_behind before t ≡ true
@@ -53,6 +56,19 @@ module _ (before : List Token) (t : Token) where
   pub begins_by_comma : is_symbol symbol.Comma t.kind ≡ true → in_list before ≡ true → rule_behind before t ≡ true
   begins_by_comma is inside =
       or_right (by_line || by_word || opens_list before t.kind) by_comma (and_from (is_symbol symbol.Comma t.kind) (in_list before) is inside)
+
+  -- or in none of them
+  pub begins_not : by_line ≡ false → by_word ≡ false → opens_list before t.kind ≡ false → by_comma ≡ false
+      → rule_behind before t ≡ false
+  begins_not line word opens comma =
+      or_from (by_line || by_word || opens_list before t.kind) by_comma
+      (or_from (by_line || by_word) (opens_list before t.kind) (or_from by_line by_word line word) opens) comma
+
+  -- what is no bracket opens no list
+  pub no_opening : is_symbol symbol.LeftBracket t.kind ≡ false → opens_list before t.kind ≡ false
+  no_opening no_bracket =
+      and_left (is_symbol symbol.LeftBracket t.kind && begins (is_word word.Constraints) before) (is_in Features before)
+      (and_left (is_symbol symbol.LeftBracket t.kind) (begins (is_word word.Constraints) before) no_bracket)
 
 -- ---- an operand begins where a rule does
 
@@ -108,26 +124,25 @@ rule_begins before t is =
 
 -- ---- the count behind tokens of a rule
 
-none_of_four : (a b c d p q r s t : Bool) → a ≡ false → b ≡ false → c ≡ false → d ≡ false → ((a && p) || (b && q) || (c && r && s) || (d && t)) ≡ false
-none_of_four a b c d p q r s t na nb nc nd =
-    ap (λ x. (x && p) || (b && q) || (c && r && s) || (d && t)) na
-    ∙ ap (λ x. (x && q) || (c && r && s) || (d && t)) nb
-    ∙ ap (λ x. (x && r && s) || (d && t)) nc
-    ∙ ap (λ x. x && t) nd
+-- where no rule begins, the count goes on
+pub count_goes_on : (before : List Token) (t : Token) → rule_behind before t ≡ false
+    → rule_nodes (t ∷ before) ≡ cond (ends_rule t.kind) None (with_node (is_node before t.kind) (rule_nodes before))
+count_goes_on before t none =
+    ap (λ b. cond b (Some 0) (cond (ends_rule t.kind) None (with_node (is_node before t.kind) (rule_nodes before)))) none
 
 -- none begins behind a token of an expression
 begins_none : (before : List Token) (t : Token) → leaves_rule t.kind ≡ false → rule_behind before t ≡ false
 begins_none before t stays =
     let there = stays_in_rule t.kind stays in
-    none_of_four (is_line_mark t.kind) (is_word word.Constraint t.kind) (is_symbol symbol.LeftBracket t.kind) (is_symbol symbol.Comma t.kind)
-    (is_in Constraints (t ∷ before)) (is_in Features before) (begins (is_word word.Constraints) before) (is_in Features before) (in_list before)
-    there.mark there.constraint there.opens there.comma
+    begins_not before t (and_left (is_line_mark t.kind) (is_in Constraints (t ∷ before)) there.mark)
+    (and_left (is_word word.Constraint t.kind) (is_in Features before) there.constraint) (no_opening before t there.opens)
+    (and_left (is_symbol symbol.Comma t.kind) (in_list before) there.comma)
 
 -- the rule has the token's node more
 pub node_behind : (before : List Token) (t : Token) (n : ℕ) → rule_nodes before ≡ Some n → leaves_rule t.kind ≡ false
     → rule_nodes (t ∷ before) ≡ Some (n + one_if (is_node before t.kind))
 node_behind before t n counted stays =
-    ap (λ b. cond b (Some 0) (cond (ends_rule t.kind) None (with_node (is_node before t.kind) (rule_nodes before)))) (begins_none before t stays)
+    count_goes_on before t (begins_none before t stays)
     ∙ ap (λ b. cond b None (with_node (is_node before t.kind) (rule_nodes before))) (stays_in_rule t.kind stays).ends
     ∙ ap (with_node (is_node before t.kind)) counted
 

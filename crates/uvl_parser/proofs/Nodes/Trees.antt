@@ -32,10 +32,10 @@ use Rattle.uvl_parser.proofs.Nodes.Entries.{braces_few}
 
 -- ---- one level of the rules of a tree
 
-rules_at : (r : Feature-F Feature Group) → all_rules (roll-Feature r) ≡ r.rules ++ flat_map (λ rules. rules) (map all_rules_of_group r.groups)
+pub rules_at : (r : Feature-F Feature Group) → all_rules (roll-Feature r) ≡ r.rules ++ flat_map (λ rules. rules) (map all_rules_of_group r.groups)
 rules_at r = fold-roll-Feature (List Expr) (List Expr) feature_rules group_rules r
 
-rules_in : (r : Group-F Feature Group) → all_rules_of_group (roll-Group r) ≡ flat_map (λ rules. rules) (map all_rules r.members)
+pub rules_in : (r : Group-F Feature Group) → all_rules_of_group (roll-Group r) ≡ flat_map (λ rules. rules) (map all_rules r.members)
 rules_in r = fold-roll-Group (List Expr) (List Expr) feature_rules group_rules r
 
 -- ---- features and groups
