@@ -38,7 +38,7 @@ module _ (tokens : List Token) where
   never_read place kind refused (Ok f) told = absurd (never_both tokens f told place kind refused)
   never_read place kind refused (Err fault) told = search rules
 
-  root_depth : (root : Option Feature) → IsShallow root → IfSome root (λ root. depth_of root ≤ 64)
+  pub root_depth : (root : Option Feature) → IsShallow root → IfSome root (λ root. depth_of root ≤ 64)
   root_depth None shallow = tt
   root_depth (Some root) shallow = within_depth 64 shallow.0 root shallow.1
 

@@ -23,3 +23,4 @@ pub mod Shaped
 pub mod Parts
 pub mod LevelTexts
 pub mod Nodes
+pub mod Within

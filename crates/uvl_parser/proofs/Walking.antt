@@ -1,7 +1,8 @@
 -- Going through tokens: what is in front behind each of them, and the part of a section there.
-use Rattle.std.specs.Prelude.{◌≡◌, ℕ, ◌+◌, ◌-◌, ◌≤◌, Bool, true, false, nat_lt, cond, List, [], ◌∷◌, ◌++◌}
-use Rattle.std.proofs.Common.{refl, sym, ap, subst, ◌∙◌, arith}
+use Rattle.std.specs.Prelude.{◌≡◌, ℕ, ◌+◌, ◌-◌, ◌≤◌, Bool, true, false, nat_lt, cond, List, [], ◌∷◌, ◌++◌, reverse}
+use Rattle.std.proofs.Common.{refl, sym, ap, subst, ◌∙◌, append_assoc, arith}
 use Rattle.std.proofs.lemmas.Bool.{le-ltb}
+use Rattle.std.proofs.lemmas.List.{reverse-append}
 use Rattle.uvl_lexer.specs.declared.token.Token.{Token}
 use Rattle.uvl_lexer.specs.declared.token.TokenKind.{TokenKind}
 use Rattle.uvl_lexer.specs.declared.token.TokenKind.TheVariants as token
@@ -22,6 +23,11 @@ walk before (t ∷ ts) = walk (t ∷ before) ts
 pub walk_append : (before xs ys : List Token) → walk before (xs ++ ys) ≡ walk (walk before xs) ys
 walk_append before [] ys = refl
 walk_append before (x ∷ xs) ys = walk_append (x ∷ before) xs ys
+
+pub walk_reverse : (before ts : List Token) → walk before ts ≡ reverse ts ++ before
+walk_reverse before [] = refl
+walk_reverse before (t ∷ ts) =
+    walk_reverse (t ∷ before) ts ∙ sym (append_assoc (reverse ts) (t ∷ []) before) ∙ ap (λ z. z ++ before) (sym (reverse-append (t ∷ []) ts))
 
 -- something fails at each token, given what is in front of it
 abbrev pub Clear : (List Token → Token → Bool) → List Token → List Token → Type 0

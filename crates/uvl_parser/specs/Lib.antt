@@ -15,4 +15,5 @@ pub mod File
 pub mod Dead
 pub mod Named
 pub mod Parsing
+pub mod Limits
 pub mod Law

@@ -22,7 +22,8 @@ mod values;
 
 pub use fault::ParseFault;
 pub use law::{
-    every_token_list_is_parsed_once, every_token_list_spells_one_file, nodes_are_counted_by_tokens,
+    every_token_list_is_parsed_once, every_token_list_spells_one_file,
+    files_are_parsed_exactly_within_the_limits, nodes_are_counted_by_tokens,
 };
 pub use parser::parse;
 

@@ -1,8 +1,7 @@
 -- Behind the tokens of an expression with which a rule begins, as many nodes are counted as its tree has.
 use Rattle.std.specs.Prelude.{◌≡◌, ℕ, ◌+◌, Bool, true, false, not, ◌&&◌, ◌||◌, cond, List, [], ◌∷◌, ◌++◌, reverse, Some, None}
-use Rattle.std.proofs.Common.{refl, sym, ap, ◌∙◌, arith, append_assoc, zero-add}
+use Rattle.std.proofs.Common.{refl, sym, ap, ◌∙◌, arith, zero-add}
 use Rattle.std.proofs.lemmas.Bool.{and_from, and_left, or_left, or_right, or_from}
-use Rattle.std.proofs.lemmas.List.{reverse-append}
 use Rattle.uvl_lexer.specs.declared.token.Token.{Token}
 use Rattle.uvl_lexer.specs.declared.token.TokenKind.{TokenKind}
 use Rattle.uvl_lexer.specs.declared.token.TokenKind.TheVariants as token
@@ -18,7 +17,7 @@ use Rattle.uvl_profile.specs.Nesting.{one_if}
 use Rattle.uvl_profile.specs.Sections.{is_in}
 use Rattle.uvl_profile.specs.Rules.{ends_number, is_node, in_list, opens_list, rule_behind, ends_rule, with_node, rule_nodes}
 use Rattle.uvl_parser.specs.Law.{nodes_among}
-use Rattle.uvl_parser.proofs.Walking.{walk}
+use Rattle.uvl_parser.proofs.Walking.{walk, walk_reverse}
 use Rattle.uvl_parser.proofs.Nodes.Kinds.{leaves_rule, stays_in_rule}
 use Rattle.uvl_parser.proofs.Nodes.Counting.{AllStay, OperandBegins, expression_counted}
 
@@ -167,11 +166,6 @@ module _ (before : List Token) (t : Token) (xs : List Token) (e : Expr) (is : ru
 
   pub nodes_are_counted : rule_nodes (reverse xs ++ t ∷ before) ≡ Some (nodes_of e)
   nodes_are_counted =
-      ap rule_nodes (sym (walk_is (t ∷ before) xs))
+      ap rule_nodes (sym (walk_reverse (t ∷ before) xs))
       ∙ nodes_behind (t ∷ before) xs 0 (none_yet before t is) rule_stays
       ∙ ap Some (ap (λ n. 0 + n) tokens_tell_nodes ∙ zero-add (nodes_of e))
-    where
-      walk_is : (front ys : List Token) → walk front ys ≡ reverse ys ++ front
-      walk_is front [] = refl
-      walk_is front (y ∷ ys) =
-          walk_is (y ∷ front) ys ∙ sym (append_assoc (reverse ys) (y ∷ []) front) ∙ ap (λ z. z ++ front) (sym (reverse-append (y ∷ []) ys))
