@@ -128,14 +128,17 @@ def check_tokens(tokens):
 
 
 def is_built(tokens):
-    """Whether a model is made of the file that the tokens are: only a tree of mandatory and optional groups is."""
+    """Whether a model is made of the file that the tokens are: only a tree of mandatory and optional groups is. Braces say
+    nothing where they hold nothing but empty lists of constraints.
+    """
     position, names = Position(tokens), []
     for token in tokens:
         section, kind = position.section_at(), token.kind
-        is_inside = position.around != [] and kind not in ("}", "]")
         if section in ("imports", "constraints") and position.levels:
             return False
-        if section == "features" and (is_inside or kind in (".", "[", "alternative", "or")):
+        if section == "features" and position.around and kind not in ("constraints", "[", "]", ",", "}"):
+            return False
+        if section == "features" and not position.around and kind in (".", "[", "alternative", "or"):
             return False
         if section == "features" and kind == "name":
             names.append(token.spelling.strip('"'))
