@@ -69,11 +69,12 @@ module _ (met : List Token → Token → Bool) (marks : SparesMarks met) (s : Se
 
 -- ---- trees
 
--- one level of a feature and of a group, as they are spelled
+-- one level of a feature, as it is spelled
 abbrev pub feature_of : Ref → List Entry → List Group → Feature-F Feature Group
 feature_of name entries groups =
     record { name = name; attributes = attributes_of entries; rules = rules_of entries; groups = groups }
 
+-- one level of a group
 abbrev pub group_of : GroupFront → List Feature → Group-F Feature Group
 group_of front members = record { kind = front.0; members = members; place = front.1 }
 

@@ -61,10 +61,11 @@ rule_clears (t ∷ before) ts e here few (Rule {xs} newline spelled ends) =
 
 -- ---- the tree of features
 
--- all rules of a tree and of a group are within the limit
+-- all rules of a tree are within the limit
 abbrev TreeWithin : Feature → Type 0
 TreeWithin f = All HasFewNodes (all_rules f)
 
+-- all rules of what is below a group are
 abbrev GroupWithin : Group → Type 0
 GroupWithin g = All HasFewNodes (all_rules_of_group g)
 
