@@ -82,6 +82,7 @@ def is_node(tokens, index):
 
 
 def is_in_rule(position):
+    """Whether a token may stand in a rule: in a line of constraints, or somewhere in braces."""
     section = position.section_at()
     return section == "constraints" and position.levels == 1 or section == "features" and position.around != []
 

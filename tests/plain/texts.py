@@ -118,14 +118,15 @@ def nest(random_, depth):
     return "".join(opening) + "A" + "".join(reversed(closing))
 
 
+# operands with the numbers of their nodes
 OPERANDS = {"A": 1, "(B)": 1, "!A": 2, "!(A | B)": 4, "A == 1": 3, "sum(a) < -2": 3, "1 - 2 > A.b": 5, "3 * -4 >= C.\"d\"": 5}
 
 
 def large_rule(random_, nodes):
     """A rule of so many nodes."""
-    parts, left = ["!A" if nodes % 2 == 0 else "A"], nodes - (2 if nodes % 2 == 0 else 1)
+    parts, left = ["A"], nodes - 1
     while left:
-        operand = random_.choice([some for some, size in OPERANDS.items() if size + 1 <= left and size % 2 == 1])
+        operand = random_.choice([some for some, size in OPERANDS.items() if size + 1 <= left and left - size - 1 != 1])
         parts += [random_.choice(["&", "|", "=>", "<=>"]), operand]
         left -= OPERANDS[operand] + 1
     return " ".join(parts)
