@@ -1,1 +1,1 @@
-"""A plain, slow reader of models, written from docs/language.md alone. The program is compared with it."""
+"""Plain, slow readers of models and of scripts, written from docs/ alone. The program is compared with them."""
