@@ -1,39 +1,14 @@
-"""The grammar as it stands in docs/language.md, and the first of a file's tokens with which no file can go on.
+"""The grammar, read from docs/language.md, and the first of a file's tokens with which no file can go on.
 
 A set of stacks is kept: each says what has still to come, the next thing first, in one of the ways in which the tokens so
 far may be the front of a file. A token leads from each stack that it fits to the next; where no stack is left, no file
 begins with these tokens.
 """
+import os
 import re
 
-GRAMMAR = """
-file        = namespace? include? imports? features? constraints? Finish
-namespace   = "namespace" reference Newline
-include     = "include" Newline (Indent (level Newline)+ Dedent)?
-level       = (name | word | "." | "-" | "*")+
-imports     = "imports" Newline (Indent (reference ("as" reference)? Newline)+ Dedent)?
-features    = "features" Newline Indent feature Dedent
-feature     = "Boolean"? reference braces? Newline (Indent group+ Dedent)?
-group       = kind Newline Indent feature+ Dedent
-kind        = "mandatory" | "optional" | "alternative" | "or" | "[" whole "]" | "[" whole ".." (whole | "*") "]"
-braces      = "{" (entry ("," entry)*)? "}"
-entry       = plain | "constraint" expression | "constraints" "[" (expression ("," expression)*)? "]"
-plain       = name value?
-value       = "true" | "false" | "-"? number | text
-            | "{" (plain ("," plain)*)? "}" | "[" (value ("," value)*)? "]"
-constraints = "constraints" Newline (Indent (expression Newline)+ Dedent)?
-reference   = name ("." name)*
-expression  = implies ("<=>" implies)*
-implies     = or ("=>" or)*
-or          = and ("|" and)*
-and         = not ("&" not)*
-not         = "!" not | comparison
-comparison  = sum (("==" | "!=" | "<" | "<=" | ">" | ">=") sum)?
-sum         = product (("+" | "-") product)*
-product     = operand ("*" operand)*
-operand     = "(" expression ")" | "-"? number | "sum" "(" name ")" | reference
-"""
-
+LANGUAGE = os.path.join(os.path.dirname(os.path.realpath(__file__)), "..", "..", "docs", "language.md")
+GRAMMAR = re.compile(r"^```\n((?:file|expression) .*?)^```$", re.M | re.S)
 PARTS = re.compile(r'"[^"]+"|[A-Za-z]+|[()|?*+]')
 
 
@@ -75,7 +50,13 @@ class Rules:
         return ("token", part.strip('"')) if part.startswith('"') else ("name", part)
 
 
-RULES = Rules(GRAMMAR).forms
+def grammar():
+    """The text of all rules."""
+    with open(LANGUAGE, encoding="utf-8") as file:
+        return "".join(GRAMMAR.findall(file.read()))
+
+
+RULES = Rules(grammar()).forms
 
 
 def expand(form, rest):
