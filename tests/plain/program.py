@@ -1,10 +1,17 @@
 """The built program, and what a check says in the end."""
 import os
+import resource
 import subprocess
 import sys
 
 TOP = os.path.dirname(os.path.dirname(os.path.dirname(os.path.realpath(__file__))))
 PROGRAM = os.path.join(TOP, "crates", "uvl", "out", "uvl")
+STACK_BYTES = 1024 * 1024
+
+
+def limit_stack():
+    """Gives the program little stack, as calls are no deeper than what nests in a model; for `preexec_fn`."""
+    resource.setrlimit(resource.RLIMIT_STACK, (STACK_BYTES, STACK_BYTES))
 
 
 def build():

@@ -35,7 +35,7 @@ pub enum BinOp {
 }
 
 /// An expression. Parentheses make no node: what they say is in the tree.
-#[derive(Debug, Drop)]
+#[derive(Debug)]
 pub enum Expr {
     /// A number, and where its first token stands, the sign where it has one.
     Number(Fixed, Place),
@@ -47,4 +47,21 @@ pub enum Expr {
     Not(Boxed<Expr>, Place),
     /// An operator, its operands, and where its symbol stands.
     Binary(BinOp, Boxed<Expr>, Boxed<Expr>, Place),
+}
+
+impl Drop for Expr {
+    /// A chain of operators is as deep as it is long, since it groups to the left. So left operands are
+    /// taken apart in a loop, and the depth of the calls is that of right operands in each other.
+    fn drop(mut self) {
+        loop {
+            match self {
+                Expr::Number(_, _) | Expr::Name(_) | Expr::Sum(_, _) => return,
+                Expr::Not(operand, _) => self = operand.into_inner(),
+                Expr::Binary(_, left, right, _) => {
+                    drop(right);
+                    self = left.into_inner();
+                }
+            }
+        }
+    }
 }
