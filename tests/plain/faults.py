@@ -129,15 +129,13 @@ def check_tokens(tokens):
 
 
 def is_built(tokens):
-    """Whether a model is made of the file that the tokens are: only a tree of mandatory and optional groups is. Braces say
-    nothing where they hold nothing but empty lists of constraints.
-    """
+    """Whether a model is made of the file that the tokens are: only a tree of mandatory and optional groups is."""
     position, names = Position(tokens), []
     for token in tokens:
         section, kind = position.section_at(), token.kind
         if section in ("imports", "constraints") and position.levels:
             return False
-        if section == "features" and position.around and kind not in ("constraints", "[", "]", ",", "}"):
+        if section == "features" and position.around and kind != "}":
             return False
         if section == "features" and not position.around and kind in (".", "[", "alternative", "or"):
             return False

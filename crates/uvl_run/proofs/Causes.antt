@@ -1,7 +1,8 @@
 -- What the answers of the layers say of the bytes of a file.
-use Rattle.std.proofs.Common.{◌≡◌, ℕ, List, inl, inr, refl, subst}
+use Rattle.std.proofs.Common.{◌≡◌, ℕ, true, false, List, inl, inr, refl, subst}
 use Rattle.std.specs.Prelude.{chars}
 use Rattle.std.specs.Str.{IsUtf8}
+use Rattle.uvl_base.specs.declared.fault.FaultKind.TheVariants.{NotBuilt}
 use Rattle.uvl_lexer.specs.declared.fault.LexFault.{LexFault}
 use Rattle.uvl_lexer.specs.declared.fault.LexFault.TheVariants as lexing
 use Rattle.uvl_lexer.specs.declared.token.Token.{Token}
@@ -10,7 +11,7 @@ use Rattle.uvl_lexer.specs.Reading as lexer
 use Rattle.uvl_ast.specs.declared.file.File.{File}
 use Rattle.uvl_parser.specs.declared.fault.ParseFault.{ParseFault}
 use Rattle.uvl_parser.specs.declared.fault.ParseFault.TheVariants as parsing
-use Rattle.uvl_parser.specs.Parsing.{IsRefusedAt}
+use Rattle.uvl_parser.specs.Parsing.{IsParsedAs, IsRefusedAt}
 use Rattle.uvl_parser.specs.Parsing as parser
 use Rattle.uvl_model.specs.Tree.{Tree, names_of}
 use Rattle.uvl_resolve.specs.declared.fault.ResolveFault.{ResolveFault}
@@ -19,8 +20,9 @@ use Rattle.uvl_resolve.specs.Built.{AreModelNames, IsBuilt}
 use Rattle.uvl_resolve.specs.Causes.{HasCause}
 use Rattle.uvl_resolve.specs.Laws.{FilesHaveOneTree, FilesAreBuiltOrHaveACause}
 use Rattle.uvl_resolve.specs.TreeOf.{IsTreeOf}
-use Rattle.uvl_run.specs.Loading.{AreTokensOf, IsFileOf, SaysTree, no_tokens, no_file, no_model}
-use Rattle.uvl_run.specs.LoadFaults.{IsCauseIn, of_lexer, of_parser, of_resolution}
+use Rattle.uvl_run.specs.Loading.{AreTokensOf, IsFileWithoutRuleLists, SaysTree, no_tokens, no_file, no_model, rule_list}
+use Rattle.uvl_run.specs.LoadFaults.{IsCauseIn, of_whole_file, of_lexer, of_parser, of_resolution}
+use Rattle.uvl_run.specs.RuleLists.{has_rule_list}
 
 -- the tokens of a text are those of its bytes
 pub tokens_of : (bytes text : List ℕ) (tokens : List Token) → text ≡ bytes → IsUtf8 bytes → Tokens (chars text) tokens → AreTokensOf bytes tokens
@@ -36,18 +38,26 @@ pub cause_of_parser : (bytes : List ℕ) (tokens : List Token) → AreTokensOf b
 cause_of_parser bytes tokens read (parsing.At place kind) refused = no_file tokens read refused
 cause_of_parser bytes tokens read parsing.OutOfMemory refused = tt
 
+-- where a list of rules stands among the tokens of a file, no model is made of it
+pub cause_of_rule_list : (bytes : List ℕ) (tokens : List Token) (file : File) → AreTokensOf bytes tokens → IsParsedAs tokens file → has_rule_list tokens ≡ true → IsCauseIn bytes (of_whole_file NotBuilt)
+cause_of_rule_list bytes tokens file read parsed has = rule_list file (record { tokens = tokens; read = read; parsed = parsed }) has (refl, refl)
+
+-- where none does, the bytes are the text of a file without such a list
+pub without_rule_lists : (bytes : List ℕ) (tokens : List Token) (file : File) → AreTokensOf bytes tokens → IsParsedAs tokens file → has_rule_list tokens ≡ false → IsFileWithoutRuleLists bytes file
+without_rule_lists bytes tokens file read parsed without = record { written = record { tokens = tokens; read = read; parsed = parsed }; without = without }
+
 -- where no model is made, there is a cause
-pub cause_of_resolution : (bytes : List ℕ) (file : File) → IsFileOf bytes file → (fault : ResolveFault) → (fault ≡ resolving.NotBuilt → HasCause file) → IsCauseIn bytes (of_resolution fault)
-cause_of_resolution bytes file written resolving.NotBuilt cause = no_model file written (cause refl) (refl, refl)
-cause_of_resolution bytes file written resolving.OutOfMemory cause = tt
+pub cause_of_resolution : (bytes : List ℕ) (file : File) → IsFileWithoutRuleLists bytes file → (fault : ResolveFault) → (fault ≡ resolving.NotBuilt → HasCause file) → IsCauseIn bytes (of_resolution fault)
+cause_of_resolution bytes file text resolving.NotBuilt cause = no_model file text.written (cause refl) (refl, refl)
+cause_of_resolution bytes file text resolving.OutOfMemory cause = tt
 
 -- a file against which there is no cause is built
 pub built : FilesAreBuiltOrHaveACause → (file : File) → (HasCause file → ⊥) → IsBuilt file
 built law file none = elim (law file).0 [ inl is ↦ is | inr cause ↦ absurd (none cause) ]
 
 -- bytes of a file that says a tree, against which there is no cause, say the tree
-pub says_tree : FilesHaveOneTree → FilesAreBuiltOrHaveACause → (bytes : List ℕ) (file : File) (tree : Tree) → IsFileOf bytes file → (HasCause file → ⊥) → IsTreeOf file tree → SaysTree bytes tree
-says_tree one law bytes file tree written none says =
+pub says_tree : FilesHaveOneTree → FilesAreBuiltOrHaveACause → (bytes : List ℕ) (file : File) (tree : Tree) → IsFileWithoutRuleLists bytes file → (HasCause file → ⊥) → IsTreeOf file tree → SaysTree bytes tree
+says_tree one law bytes file tree text none says =
     let is = built law file none in
     let P : Tree → Type 0 = λ t. AreModelNames (names_of t) in
-    record { file = file; written = written; says = says; names = subst P (one file is.tree tree is.of_file says) is.names }
+    record { file = file; text = text; says = says; names = subst P (one file is.tree tree is.of_file says) is.names }

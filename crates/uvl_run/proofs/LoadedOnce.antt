@@ -1,5 +1,5 @@
 -- Whatever is at a path, it is the model of one tree or has one fault: this follows from the laws of the layers.
-use Rattle.std.proofs.Common.{◌≡◌, ℕ, ◌<◌, ◌≤◌, ◌⊎◌, Bool, true, false, List, length, Some, None, inl, inr, refl, sym, ◌∙◌, subst, arith}
+use Rattle.std.proofs.Common.{◌≡◌, ℕ, ◌<◌, ◌≤◌, ◌⊎◌, Bool, true, false, List, length, Some, None, inl, inr, refl, sym, ◌∙◌, ap, subst, arith}
 use Rattle.std.proofs.lemmas.Bool.{ltb-true, ltb-false}
 use Rattle.std.proofs.lemmas.Option.{same_Some}
 use Rattle.std.proofs.lemmas.Str.{IsUtf8-from_is_utf8, is_utf8-from_IsUtf8}
@@ -19,7 +19,8 @@ use Rattle.uvl_resolve.specs.Causes.{HasCause}
 use Rattle.uvl_resolve.specs.Laws.{FilesHaveOneTree, FilesAreBuiltOrHaveACause}
 use Rattle.uvl_resolve.specs.TreeOf.{IsTreeOf}
 use Rattle.uvl_run.specs.Laws.{HasOneTree, HasOneFault, EachContentIsLoadedOnce}
-use Rattle.uvl_run.specs.Loading.{most_file_bytes, first_place, IsFileOf, SaysTree, HasFaultIn, no_text, no_tokens, no_file, no_model, IsModelOf}
+use Rattle.uvl_run.specs.Loading.{most_file_bytes, first_place, AreTokensOf, IsFileOf, SaysTree, HasFaultIn, no_text, no_tokens, no_file, no_model, rule_list, IsModelOf}
+use Rattle.uvl_run.specs.RuleLists.{has_rule_list}
 use Rattle.uvl_run.proofs.Loads.{fault_within, within_fault, fault_beyond, beyond_fault}
 
 -- the bytes have the fault, that fault alone, and say no tree
@@ -44,7 +45,7 @@ no_utf8 bytes no_text' = record {
   kind = NotUtf8;
   has = no_text no_text' (refl, refl);
   one = alone;
-  no_tree = λ tree says. no_text' says.written.read.utf8;
+  no_tree = λ tree says. no_text' says.text.written.read.utf8;
 }
   where
     alone : (other : Place) (why : FaultKind) → HasFaultIn bytes other why → (other ≡ first_place) × (why ≡ NotUtf8)
@@ -52,6 +53,7 @@ no_utf8 bytes no_text' = record {
     alone other why (no_tokens utf8 stops) = absurd (no_text' utf8)
     alone other why (no_file tokens read refused) = absurd (no_text' read.utf8)
     alone other why (no_model file written cause is) = absurd (no_text' written.read.utf8)
+    alone other why (rule_list file written has is) = absurd (no_text' written.read.utf8)
 
 -- a text that stops
 stopped : (bytes : List ℕ) → IsUtf8 bytes → HasStop (chars bytes) → FaultAlone bytes
@@ -60,7 +62,7 @@ stopped bytes utf8 stop = record {
   kind = stop.kind;
   has = no_tokens utf8 stop.stops;
   one = alone;
-  no_tree = λ tree says. stop.no_tokens says.written.tokens says.written.read.read;
+  no_tree = λ tree says. stop.no_tokens says.text.written.tokens says.text.written.read.read;
 }
   where
     alone : (other : Place) (why : FaultKind) → HasFaultIn bytes other why → (other ≡ stop.place) × (why ≡ stop.kind)
@@ -68,6 +70,7 @@ stopped bytes utf8 stop = record {
     alone other why (no_tokens _ stops) = (stop.one_place other why stops, stop.one_kind other why stops)
     alone other why (no_file tokens read refused) = absurd (stop.no_tokens tokens read.read)
     alone other why (no_model file written cause is) = absurd (stop.no_tokens written.tokens written.read.read)
+    alone other why (rule_list file written has is) = absurd (stop.no_tokens written.tokens written.read.read)
 
 -- the file of bytes that have these tokens alone is one of the tokens
 parsed_of : (bytes : List ℕ) (one : HasTokens (chars bytes)) (file : File) → IsFileOf bytes file → IsParsedAs one.tokens file
@@ -82,7 +85,7 @@ refused_tokens bytes utf8 one refusal = record {
   kind = refusal.kind;
   has = no_file one.tokens (record { utf8 = utf8; read = one.has }) refusal.refused;
   one = alone;
-  no_tree = λ tree says. refusal.no_file says.file (parsed_of bytes one says.file says.written);
+  no_tree = λ tree says. refusal.no_file says.file (parsed_of bytes one says.file says.text.written);
 }
   where
     alone : (other : Place) (why : FaultKind) → HasFaultIn bytes other why → (other ≡ refusal.place) × (why ≡ refusal.kind)
@@ -93,53 +96,69 @@ refused_tokens bytes utf8 one refusal = record {
         let same = subst P (one.one tokens read.read) refused in
         (refusal.one_place other why same, refusal.one_kind other why same)
     alone other why (no_model file written cause is) = absurd (refusal.no_file file (parsed_of bytes one file written))
+    alone other why (rule_list file written has is) = absurd (refusal.no_file file (parsed_of bytes one file written))
 
--- a file against which there is a cause
-not_built : (bytes : List ℕ) → FilesAreBuiltOrHaveACause → IsUtf8 bytes → (one : HasTokens (chars bytes)) (parsed : HasFile one.tokens) → HasCause parsed.file → FaultAlone bytes
-not_built bytes causes utf8 one parsed cause = record {
-  place = first_place;
-  kind = NotBuilt;
-  has = no_model parsed.file written cause (refl, refl);
-  one = alone;
-  no_tree = λ tree says. (causes says.file).1 (record { tree = tree; of_file = says.says; names = says.names }) (subst HasCause (sym (same says.file says.written)) cause);
-}
-  where
-    written : IsFileOf bytes parsed.file
-    written = record { tokens = one.tokens; read = record { utf8 = utf8; read = one.has }; parsed = parsed.parsed }
+-- whether a list of rules stands in the file of bytes that have these tokens alone is told by them
+lists_of : (bytes : List ℕ) (one : HasTokens (chars bytes)) (file : File) (written : IsFileOf bytes file) → has_rule_list written.tokens ≡ has_rule_list one.tokens
+lists_of bytes one file written = ap has_rule_list (one.one written.tokens written.read.read)
 
-    same : (file : File) → IsFileOf bytes file → file ≡ parsed.file
-    same file other = parsed.one file (parsed_of bytes one file other)
+module _ (bytes : List ℕ) (utf8 : IsUtf8 bytes) (one : HasTokens (chars bytes)) (parsed : HasFile one.tokens) where
+  written : IsFileOf bytes parsed.file
+  written = record { tokens = one.tokens; read = record { utf8 = utf8; read = one.has }; parsed = parsed.parsed }
 
-    alone : (other : Place) (why : FaultKind) → HasFaultIn bytes other why → (other ≡ first_place) × (why ≡ NotBuilt)
-    alone other why (no_text not _) = absurd (not utf8)
-    alone other why (no_tokens _ stops) = absurd (one.never_stops other why stops)
-    alone other why (no_file tokens read refused) =
-        let P : List Token → Type 0 = λ ts. IsRefusedAt ts other why in
-        absurd (parsed.never_refused other why (subst P (one.one tokens read.read) refused))
-    alone other why (no_model file _ _ is) = is
+  same : (file : File) → IsFileOf bytes file → file ≡ parsed.file
+  same file other = parsed.one file (parsed_of bytes one file other)
 
--- a file that is built
-built : (bytes : List ℕ) → FilesHaveOneTree → FilesAreBuiltOrHaveACause → IsUtf8 bytes → (one : HasTokens (chars bytes)) (parsed : HasFile one.tokens) → IsBuilt parsed.file → TreeAlone bytes
-built bytes trees causes utf8 one parsed is = record {
-  tree = is.tree;
-  says = record { file = parsed.file; written = written; says = is.of_file; names = is.names };
-  one = λ other says. trees parsed.file other is.tree (subst (λ (f : File). IsTreeOf f other) (same says.file says.written) says.says) is.of_file;
-  no_fault = none;
-}
-  where
-    written : IsFileOf bytes parsed.file
-    written = record { tokens = one.tokens; read = record { utf8 = utf8; read = one.has }; parsed = parsed.parsed }
+  never_refused : (tokens : List Token) (place : Place) (kind : FaultKind) → AreTokensOf bytes tokens → IsRefusedAt tokens place kind → ⊥
+  never_refused tokens place kind read refused =
+      let P : List Token → Type 0 = λ ts. IsRefusedAt ts place kind in
+      parsed.never_refused place kind (subst P (one.one tokens read.read) refused)
 
-    same : (file : File) → IsFileOf bytes file → file ≡ parsed.file
-    same file other = parsed.one file (parsed_of bytes one file other)
+  -- a file of which no model is made, for one cause or another
+  not_built : HasFaultIn bytes first_place NotBuilt → ((tree : Tree) → SaysTree bytes tree → ⊥) → FaultAlone bytes
+  not_built has no_tree' = record { place = first_place; kind = NotBuilt; has = has; one = alone; no_tree = no_tree' }
+    where
+      alone : (other : Place) (why : FaultKind) → HasFaultIn bytes other why → (other ≡ first_place) × (why ≡ NotBuilt)
+      alone other why (no_text not _) = absurd (not utf8)
+      alone other why (no_tokens _ stops) = absurd (one.never_stops other why stops)
+      alone other why (no_file tokens read refused) = absurd (never_refused tokens other why read refused)
+      alone other why (no_model file _ _ is) = is
+      alone other why (rule_list file _ _ is) = is
 
-    none : (other : Place) (why : FaultKind) → HasFaultIn bytes other why → ⊥
-    none other why (no_text not _) = not utf8
-    none other why (no_tokens _ stops) = one.never_stops other why stops
-    none other why (no_file tokens read refused) =
-        let P : List Token → Type 0 = λ ts. IsRefusedAt ts other why in
-        parsed.never_refused other why (subst P (one.one tokens read.read) refused)
-    none other why (no_model file written' cause _) = (causes parsed.file).1 is (subst HasCause (same file written') cause)
+  -- there is a cause against it
+  caused : FilesAreBuiltOrHaveACause → HasCause parsed.file → FaultAlone bytes
+  caused causes cause = not_built (no_model parsed.file written cause (refl, refl)) (λ tree says.
+      (causes says.file).1 (record { tree = tree; of_file = says.says; names = says.names }) (subst HasCause (sym (same says.file says.text.written)) cause))
+
+  -- a list of rules stands in its braces
+  listed : has_rule_list one.tokens ≡ true → FaultAlone bytes
+  unfolding written
+  listed has = not_built (rule_list parsed.file written has (refl, refl)) (λ tree says.
+      let both : true ≡ false = sym has ∙ sym (lists_of bytes one says.file says.text.written) ∙ says.text.without in cc)
+
+  -- a file that is built, with no such list
+  built : FilesHaveOneTree → FilesAreBuiltOrHaveACause → has_rule_list one.tokens ≡ false → IsBuilt parsed.file → TreeAlone bytes
+  unfolding written
+  built trees causes without is = record {
+    tree = is.tree;
+    says = record { file = parsed.file; text = record { written = written; without = without }; says = is.of_file; names = is.names };
+    one = λ other says. trees parsed.file other is.tree (subst (λ (f : File). IsTreeOf f other) (same says.file says.text.written) says.says) is.of_file;
+    no_fault = none;
+  }
+    where
+      none : (other : Place) (why : FaultKind) → HasFaultIn bytes other why → ⊥
+      none other why (no_text not _) = not utf8
+      none other why (no_tokens _ stops) = one.never_stops other why stops
+      none other why (no_file tokens read refused) = never_refused tokens other why read refused
+      none other why (no_model file other' cause _) = (causes parsed.file).1 is (subst HasCause (same file other') cause)
+      none other why (rule_list file other' has _) = let both : true ≡ false = sym has ∙ lists_of bytes one file other' ∙ without in cc
+
+  by_list : FilesHaveOneTree → FilesAreBuiltOrHaveACause → IsBuilt parsed.file → (b : Bool) → has_rule_list one.tokens ≡ b → TreeAlone bytes ⊎ FaultAlone bytes
+  by_list trees causes is true has = inr (listed has)
+  by_list trees causes is false without = inl (built trees causes without is)
+
+  one_or_other : FilesHaveOneTree → FilesAreBuiltOrHaveACause → TreeAlone bytes ⊎ FaultAlone bytes
+  one_or_other trees causes = elim (causes parsed.file).0 [ inl is ↦ by_list trees causes is (has_rule_list one.tokens) refl | inr cause ↦ inr (caused causes cause) ]
 
 -- a file is within the limit or beyond it
 within_or_beyond : (n : ℕ) → (n ≤ most_file_bytes) ⊎ (most_file_bytes < n)
@@ -150,13 +169,9 @@ within_or_beyond n = by_test (nat_lt most_file_bytes n) refl
     by_test false is = inl (ltb-false _ _ is)
 
 module _ (texts : EachTextIsReadOnce) (lists : TokensAreAList) (parses : EachTokenListIsParsedOnce) (trees : FilesHaveOneTree) (causes : FilesAreBuiltOrHaveACause) where
-  of_file : (bytes : List ℕ) → IsUtf8 bytes → (one : HasTokens (chars bytes)) (parsed : HasFile one.tokens) → TreeAlone bytes ⊎ FaultAlone bytes
-  of_file bytes utf8 one parsed =
-      elim (causes parsed.file).0 [ inl is ↦ inl (built bytes trees causes utf8 one parsed is) | inr cause ↦ inr (not_built bytes causes utf8 one parsed cause) ]
-
   of_tokens : (bytes : List ℕ) → IsUtf8 bytes → (one : HasTokens (chars bytes)) → TreeAlone bytes ⊎ FaultAlone bytes
   of_tokens bytes utf8 one =
-      elim (parses one.tokens (lists (chars bytes) one.tokens one.has)) [ inl parsed ↦ of_file bytes utf8 one parsed | inr refusal ↦ inr (refused_tokens bytes utf8 one refusal) ]
+      elim (parses one.tokens (lists (chars bytes) one.tokens one.has)) [ inl parsed ↦ one_or_other bytes utf8 one parsed trees causes | inr refusal ↦ inr (refused_tokens bytes utf8 one refusal) ]
 
   of_text : (bytes : List ℕ) → IsUtf8 bytes → TreeAlone bytes ⊎ FaultAlone bytes
   of_text bytes utf8 = elim (texts (chars bytes)) [ inl one ↦ of_tokens bytes utf8 one | inr stop ↦ inr (stopped bytes utf8 stop) ]

@@ -12,6 +12,7 @@ pub mod LoadFaults
 pub mod Loading
 pub mod Replies
 pub mod ReplyTexts
+pub mod RuleLists
 pub mod Run
 pub mod Script
 pub mod Status

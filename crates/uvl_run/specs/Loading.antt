@@ -1,5 +1,5 @@
 -- Which files are models, and what is wrong with the others.
-use Rattle.std.specs.Prelude.{◌≡◌, ℕ, ◌≤◌, nat_lt, List, length, Option, Some, None, IfSome, MatchBool, chars}
+use Rattle.std.specs.Prelude.{◌≡◌, ℕ, ◌≤◌, nat_lt, true, false, List, length, Option, Some, None, IfSome, MatchBool, chars}
 use Rattle.std.specs.Str.{IsUtf8}
 use Rattle.uvl_outside.specs.Files.{Contents}
 use Rattle.uvl_base.specs.declared.fault.FaultKind.{FaultKind}
@@ -14,6 +14,7 @@ use Rattle.uvl_model.specs.Tree.{Tree, names_of}
 use Rattle.uvl_resolve.specs.Built.{AreModelNames}
 use Rattle.uvl_resolve.specs.Causes.{HasCause}
 use Rattle.uvl_resolve.specs.TreeOf.{IsTreeOf}
+use Rattle.uvl_run.specs.RuleLists.{has_rule_list}
 
 -- the most bytes of one file
 abbrev pub most_file_bytes : ℕ
@@ -32,10 +33,15 @@ pub record IsFileOf (bytes : List ℕ) (file : File) : Type 0 where
   pub read : AreTokensOf bytes tokens
   pub parsed : IsParsedAs tokens file
 
+-- the same of a file in whose braces no list of rules stands
+pub record IsFileWithoutRuleLists (bytes : List ℕ) (file : File) : Type 0 where
+  pub written : IsFileOf bytes file
+  pub without : has_rule_list written.tokens ≡ false
+
 -- the bytes are the text of a file that says the tree, and the tree's names may be those of a model
 pub record SaysTree (bytes : List ℕ) (tree : Tree) : Type 0 where
   pub file : File
-  pub written : IsFileOf bytes file
+  pub text : IsFileWithoutRuleLists bytes file
   pub says : IsTreeOf file tree
   pub names : AreModelNames (names_of tree)
 
@@ -50,12 +56,14 @@ abbrev pub IsOfWholeFile : FaultKind → Place → FaultKind → Type 0
 IsOfWholeFile fault place kind = (place ≡ first_place) × (kind ≡ fault)
 
 -- What is wrong with the bytes of a file: they are no UTF-8; or else their text stops; or else its tokens are refused;
--- or else there is a cause for which no model is made of the file.
+-- or else there is a cause for which no model is made of the file, or a list of rules in its braces, of which the syntax
+-- has no trace where the list is empty.
 pub data HasFaultIn (bytes : List ℕ) (place : Place) (kind : FaultKind) : Type 0 where
   no_text : (IsUtf8 bytes → ⊥) → IsOfWholeFile NotUtf8 place kind → HasFaultIn bytes place kind
   no_tokens : IsUtf8 bytes → Stops (chars bytes) place kind → HasFaultIn bytes place kind
   no_file : (tokens : List Token) → AreTokensOf bytes tokens → IsRefusedAt tokens place kind → HasFaultIn bytes place kind
   no_model : (file : File) → IsFileOf bytes file → HasCause file → IsOfWholeFile NotBuilt place kind → HasFaultIn bytes place kind
+  rule_list : (file : File) (written : IsFileOf bytes file) → has_rule_list written.tokens ≡ true → IsOfWholeFile NotBuilt place kind → HasFaultIn bytes place kind
 
 -- ---- what is at a path
 

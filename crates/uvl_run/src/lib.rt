@@ -9,6 +9,7 @@ mod laws;
 mod lines;
 mod load;
 mod reply;
+mod rule_lists;
 mod script;
 mod status;
 mod top;

@@ -7,8 +7,9 @@ ghost use Rattle.uvl_model.specs.OptionalGroups.{GroupsAreMandatoryOrOptional};
 ghost use Rattle.uvl_model.specs.Spelling.{Spells};
 ghost use Rattle.uvl_model.specs.Tree.{Tree};
 ghost use Rattle.uvl_run.specs.LoadFaults.{IsCauseOf, IsCauseIn, load_failed, of_whole_file};
-ghost use Rattle.uvl_run.specs.Loading.{IsFileOf, LoadsModel, SaysTree};
+ghost use Rattle.uvl_run.specs.Loading.{IsFileWithoutRuleLists, LoadsModel, SaysTree};
 
+use crate::rule_lists::has_rule_list;
 use std::alloc::Global;
 use uvl_ast::File;
 use uvl_base::{FaultKind, Place};
@@ -119,10 +120,10 @@ fn model_in(alloc: Global, bytes: &[u8]) -> Result<Model, LoadFault>
     Ok(resolve(alloc, &file)?)
 }
 
-/// The syntax of a file's bytes.
+/// The syntax of a file's bytes, where no list of rules stands in its braces: no model is made of others.
 fn file_in(alloc: Global, bytes: &[u8]) -> Result<File, LoadFault>
     requires { length bytes.now ≤ 8388608 }
-    ensures file { IfOk result (IsFileOf bytes.now) }
+    ensures file { IfOk result (IsFileWithoutRuleLists bytes.now) }
     ensures shallow { IfOk result (λ file. IfSome file.root (λ root. depth_of root ≤ 64)) }
     ensures members { IfOk result (λ file. IfSome file.root EachGroupHasMembers) }
     ensures fault { IfErr result (IsCauseIn bytes.now) }
@@ -131,5 +132,9 @@ fn file_in(alloc: Global, bytes: &[u8]) -> Result<File, LoadFault>
         return Err(LoadFault::of_whole_file(FaultKind::NotUtf8));
     };
     let tokens = lex(alloc, text)?;
-    Ok(parse(alloc, &tokens)?)
+    let file = parse(alloc, &tokens)?;
+    if has_rule_list(&tokens) {
+        return Err(LoadFault::of_whole_file(FaultKind::NotBuilt));
+    }
+    Ok(file)
 }

@@ -27,7 +27,7 @@ fn run_on(alloc: Global, file: &[u8], out: &mut SureSink) -> Result<Status, Fail
 #[test]
 fn each_file_has_its_answer(rt: HostRuntime) -> Result<(), Fail> {
     let alloc = rt.alloc();
-    let rows: [(&[u8], Status, &[u8]); 8] = [
+    let rows: [(&[u8], Status, &[u8]); 9] = [
         (OTHER_LAYOUT, Status::Done, REPLIES),
         (TWO_LEVELS, Status::Done, REPLIES),
         (
@@ -36,6 +36,11 @@ fn each_file_has_its_answer(rt: HostRuntime) -> Result<(), Fail> {
             b"fault m.uvl:1:1 E99 NotBuilt\n",
         ),
         (b"", Status::Model, b"fault m.uvl:1:1 E99 NotBuilt\n"),
+        (
+            b"features\n\tA {constraints []}\n",
+            Status::Model,
+            b"fault m.uvl:1:1 E99 NotBuilt\n",
+        ),
         (
             b"features\n\tA\n\xFF",
             Status::Model,
