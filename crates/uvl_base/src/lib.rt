@@ -4,6 +4,7 @@
 mod fault;
 mod fixed;
 mod identifier;
+mod limits;
 mod name;
 mod place;
 mod text;
@@ -12,6 +13,10 @@ mod words;
 pub use fault::{FaultKind, ModelFault};
 pub use fixed::{Fixed, NumberFault};
 pub use identifier::{begins_identifier, continues_identifier};
+pub use limits::{
+    MOST_DEPTH, MOST_FEATURES, MOST_FILE_BYTES, MOST_LINE_BYTES, MOST_NESTING, MOST_RULE_NODES,
+    MOST_SCRIPT_BYTES,
+};
 pub use name::{Name, NameFault, is_name};
 pub use place::Place;
 pub use text::{OutOfMemory, Text};

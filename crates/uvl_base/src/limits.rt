@@ -1,0 +1,22 @@
+//! The limits of what is read: files, models, rules and scripts. They are this project's own.
+
+/// The most bytes of one file.
+pub const MOST_FILE_BYTES: usize = 8_388_608;
+
+/// The most features of a model.
+pub const MOST_FEATURES: usize = 2_048;
+
+/// How deep features nest at most. The root is at 1.
+pub const MOST_DEPTH: usize = 64;
+
+/// How deep brackets and `!` nest at most in a line.
+pub const MOST_NESTING: usize = 128;
+
+/// The most nodes of one rule: its literals, references, sums and operators.
+pub const MOST_RULE_NODES: usize = 8_192;
+
+/// The most bytes of a line of a script, without its line end.
+pub const MOST_LINE_BYTES: usize = 65_536;
+
+/// The most bytes of a script.
+pub const MOST_SCRIPT_BYTES: usize = 67_108_864;
