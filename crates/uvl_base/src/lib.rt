@@ -8,7 +8,7 @@ mod limits;
 mod name;
 mod place;
 mod text;
-mod words;
+mod word;
 
 pub use fault::{FaultKind, ModelFault};
 pub use fixed::{Fixed, NumberFault};
@@ -20,7 +20,7 @@ pub use limits::{
 pub use name::{Name, NameFault, is_name};
 pub use place::Place;
 pub use text::{OutOfMemory, Text};
-pub use words::is_reserved;
+pub use word::{Word, is_reserved, word_of};
 
 #[cfg(test)]
 mod tests;

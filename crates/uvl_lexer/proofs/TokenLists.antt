@@ -9,7 +9,7 @@ use Rattle.uvl_base.specs.Number.{is_negative, is_point, whole_digits, decimals,
 use Rattle.uvl_lexer.specs.declared.token.Token.{Token}
 use Rattle.uvl_lexer.specs.declared.token.TokenKind.{TokenKind}
 use Rattle.uvl_lexer.specs.declared.token.TokenKind.TheVariants as token
-use Rattle.uvl_lexer.specs.declared.token.Word.{Word}
+use Rattle.uvl_base.specs.declared.word.Word.{Word}
 use Rattle.uvl_lexer.specs.declared.brackets.Bracket.{Bracket}
 use Rattle.uvl_lexer.specs.declared.position.Position.{Position}
 use Rattle.uvl_lexer.specs.declared.piece.Lexeme.{Lexeme}

@@ -8,7 +8,7 @@ use Rattle.uvl_base.specs.Number.{millionths_of, is_too_wide, is_point}
 use Rattle.uvl_lexer.specs.declared.token.Token.{Token}
 use Rattle.uvl_lexer.specs.declared.token.TokenKind.{TokenKind}
 use Rattle.uvl_lexer.specs.declared.token.TokenKind.TheVariants as token
-use Rattle.uvl_lexer.specs.declared.token.Word.{Word}
+use Rattle.uvl_base.specs.declared.word.Word.{Word}
 use Rattle.uvl_lexer.specs.declared.token.Symbol.{Symbol}
 use Rattle.uvl_lexer.specs.declared.brackets.Bracket.{Bracket}
 use Rattle.uvl_lexer.specs.declared.position.Position.{Position}
@@ -21,7 +21,7 @@ use Rattle.uvl_lexer.specs.Characters.{begins_with}
 use Rattle.uvl_lexer.specs.Cut.{Cut, Whole, Unread, Begins, cut}
 use Rattle.uvl_lexer.specs.Levels.{opens_level, is_aligned, levels_behind, closed_by}
 use Rattle.uvl_lexer.specs.Positions.{start, place_of, behind, behind_mark}
-use Rattle.uvl_lexer.specs.Words.{word_of}
+use Rattle.uvl_base.specs.ReservedWords.{word_of}
 
 -- ---- what a spelling says
 

@@ -13,4 +13,3 @@ pub mod Reading
 pub mod Spellings
 pub mod TokenList
 pub mod Turns
-pub mod Words

@@ -1,5 +1,6 @@
 //! Tests of a token's kind.
-use crate::token::{Symbol, TokenKind, Word};
+use crate::token::{Symbol, TokenKind};
+use uvl_base::Word;
 
 impl TokenKind {
     ghost use Rattle.std.specs.Prelude.{◌≡◌};

@@ -15,12 +15,12 @@ mod reader;
 mod spelling;
 mod symbol;
 mod token;
-mod word;
 
 pub use fault::LexFault;
 pub use law::{every_text_is_cut_once, every_text_is_read_once, tokens_are_a_list};
 pub use lexer::lex;
-pub use token::{Symbol, Token, TokenKind, Word};
+pub use token::{Symbol, Token, TokenKind};
+pub use uvl_base::Word;
 
 #[cfg(test)]
 mod tests;

@@ -3,8 +3,8 @@ ghost use Rattle.std.specs.Prelude.{◌≡◌, ◌&&◌, ◌≤◌, true, IfErr,
 ghost use Rattle.std.specs.List.{list_any};
 ghost use Rattle.uvl_base.specs.Name.{is_name};
 ghost use Rattle.uvl_base.specs.Number.{is_number, is_too_wide, is_point, millionths_of};
+ghost use Rattle.uvl_base.specs.ReservedWords.{word_of};
 ghost use Rattle.uvl_lexer.specs.Forms.{HasTokenForm};
-ghost use Rattle.uvl_lexer.specs.Words.{word_of};
 ghost use Rattle.uvl_lexer.specs.declared.token.TokenKind.TheVariants as token;
 ghost use Rattle.uvl_lexer.specs.Layout as spec;
 ghost use Rattle.uvl_lexer.specs.Spellings.{IsReadable};
@@ -13,9 +13,8 @@ use crate::characters::split_at_count;
 use crate::fault::LexFault;
 use crate::piece::Lexeme;
 use crate::token::TokenKind;
-use crate::word::word_of;
 use std::alloc::Global;
-use uvl_base::{Fixed, Name, NameFault, NumberFault, Text};
+use uvl_base::{Fixed, Name, NameFault, NumberFault, Text, word_of};
 
 /// Whether a number has more digits than the numbers of this project.
 pub(crate) fn is_too_wide(spelling: &str) -> bool

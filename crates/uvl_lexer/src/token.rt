@@ -1,5 +1,5 @@
 //! The tokens of a UVL file.
-use uvl_base::{Fixed, Name, Place, Text};
+use uvl_base::{Fixed, Name, Place, Text, Word};
 
 /// A token: what it is, where it stands, and the bytes of the text that spell it.
 #[derive(Debug, Drop)]
@@ -32,34 +32,6 @@ pub enum TokenKind {
     Newline,
     /// The end of the text.
     Finish,
-}
-
-/// The reserved words.
-#[derive(Clone, Copy, Debug, PartialEq, Eq)]
-pub enum Word {
-    Namespace,
-    Include,
-    Imports,
-    As,
-    Features,
-    Constraints,
-    Constraint,
-    Mandatory,
-    Optional,
-    Alternative,
-    Or,
-    Cardinality,
-    Sum,
-    Avg,
-    Len,
-    Floor,
-    Ceil,
-    True,
-    False,
-    Boolean,
-    String,
-    Integer,
-    Real,
 }
 
 /// The symbols.

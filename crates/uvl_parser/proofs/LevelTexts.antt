@@ -6,11 +6,11 @@ use Rattle.std.proofs.lemmas.Str.{chars-append, chars-nil}
 use Rattle.uvl_base.specs.declared.place.Place.{Place}
 use Rattle.uvl_lexer.specs.declared.token.Token.{Token}
 use Rattle.uvl_lexer.specs.declared.token.TokenKind.TheVariants as token
-use Rattle.uvl_lexer.specs.declared.token.Word.{Word}
-use Rattle.uvl_lexer.specs.declared.token.Word.TheVariants as word
+use Rattle.uvl_base.specs.declared.word.Word.{Word}
+use Rattle.uvl_base.specs.declared.word.Word.TheVariants as word
 use Rattle.uvl_lexer.specs.declared.token.Symbol.{Symbol}
 use Rattle.uvl_lexer.specs.declared.token.Symbol.TheVariants as symbol
-use Rattle.uvl_lexer.specs.Words.{characters_of_word}
+use Rattle.uvl_base.specs.ReservedWords.{characters_of_word}
 use Rattle.uvl_parser.specs.Tests.{begins, is_newline}
 use Rattle.uvl_parser.specs.Sections.{level_part, written_name, joined}
 use Rattle.uvl_parser.specs.Reading.{Read, ◌>>=◌, done, bind, one, accept, accepted, one_or_more, many, repeat, with_front}

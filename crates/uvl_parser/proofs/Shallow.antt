@@ -6,7 +6,7 @@ use Rattle.std.proofs.Math.Seq.{take-append_seam}
 use Rattle.uvl_base.specs.declared.fault.FaultKind.{FaultKind}
 use Rattle.uvl_base.specs.declared.fault.FaultKind.TheVariants.{TooDeep}
 use Rattle.uvl_lexer.specs.declared.token.Token.{Token}
-use Rattle.uvl_lexer.specs.declared.token.Word.TheVariants as word
+use Rattle.uvl_base.specs.declared.word.Word.TheVariants as word
 use Rattle.uvl_ast.specs.declared.feature.Feature.{Feature}
 use Rattle.uvl_ast.specs.declared.file.File.{File}
 use Rattle.uvl_profile.specs.declared.section.Section.TheVariants.{Features}

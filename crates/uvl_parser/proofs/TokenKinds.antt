@@ -4,8 +4,8 @@ use Rattle.std.proofs.Common.{refl, sym, ap, ◌∙◌, arith}
 use Rattle.std.proofs.lemmas.Bool.Decides.{nat_tests}
 use Rattle.uvl_lexer.specs.declared.token.TokenKind.{TokenKind}
 use Rattle.uvl_lexer.specs.declared.token.TokenKind.TheVariants as token
-use Rattle.uvl_lexer.specs.declared.token.Word.{Word}
-use Rattle.uvl_lexer.specs.declared.token.Word.TheVariants as word
+use Rattle.uvl_base.specs.declared.word.Word.{Word}
+use Rattle.uvl_base.specs.declared.word.Word.TheVariants as word
 use Rattle.uvl_lexer.specs.declared.token.Symbol.{Symbol}
 use Rattle.uvl_lexer.specs.declared.token.Symbol.TheVariants as symbol
 use Rattle.uvl_parser.specs.Tests.{is_word, is_symbol, is_newline, is_indent, is_dedent, is_finish, number_of_word, number_of_symbol}

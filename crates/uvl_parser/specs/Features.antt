@@ -3,7 +3,7 @@
 --   group   = kind Newline Indent feature+ Dedent
 use Rattle.std.specs.Prelude.{ℕ, zero, suc, List, [], ◌∷◌, ◌++◌}
 use Rattle.uvl_lexer.specs.declared.token.Token.{Token}
-use Rattle.uvl_lexer.specs.declared.token.Word.TheVariants as word
+use Rattle.uvl_base.specs.declared.word.Word.TheVariants as word
 use Rattle.uvl_ast.specs.declared.names.Ref.{Ref}
 use Rattle.uvl_ast.specs.declared.feature.Feature.{Feature, roll-Feature}
 use Rattle.uvl_ast.specs.declared.feature.Group.{Group, roll-Group}

@@ -2,7 +2,7 @@
 --   file = namespace? include? imports? features? constraints? Finish
 use Rattle.std.specs.Prelude.{List, [], ◌∷◌, ◌++◌, Option, ℕ}
 use Rattle.uvl_lexer.specs.declared.token.Token.{Token}
-use Rattle.uvl_lexer.specs.declared.token.Word.TheVariants as word
+use Rattle.uvl_base.specs.declared.word.Word.TheVariants as word
 use Rattle.uvl_ast.specs.declared.names.Ref.{Ref}
 use Rattle.uvl_ast.specs.declared.expression.Expr.{Expr}
 use Rattle.uvl_ast.specs.declared.feature.Feature.{Feature}

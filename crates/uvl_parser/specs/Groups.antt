@@ -4,7 +4,7 @@
 use Rattle.std.specs.Prelude.{◌≡◌, ℕ, List, [], ◌∷◌, Some, None}
 use Rattle.uvl_base.specs.declared.place.Place.{Place}
 use Rattle.uvl_lexer.specs.declared.token.Token.{Token}
-use Rattle.uvl_lexer.specs.declared.token.Word.TheVariants as word
+use Rattle.uvl_base.specs.declared.word.Word.TheVariants as word
 use Rattle.uvl_lexer.specs.declared.token.Symbol.TheVariants as symbol
 use Rattle.uvl_ast.specs.declared.feature.GroupKind.{GroupKind}
 use Rattle.uvl_ast.specs.declared.feature.GroupKind.TheVariants as group

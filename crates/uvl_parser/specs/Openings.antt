@@ -1,8 +1,8 @@
 -- What the first token of an operand of numbers says of it.
 use Rattle.uvl_lexer.specs.declared.token.TokenKind.{TokenKind}
 use Rattle.uvl_lexer.specs.declared.token.TokenKind.TheVariants as token
-use Rattle.uvl_lexer.specs.declared.token.Word.{Word}
-use Rattle.uvl_lexer.specs.declared.token.Word.TheVariants as word
+use Rattle.uvl_base.specs.declared.word.Word.{Word}
+use Rattle.uvl_base.specs.declared.word.Word.TheVariants as word
 use Rattle.uvl_lexer.specs.declared.token.Symbol.{Symbol}
 use Rattle.uvl_lexer.specs.declared.token.Symbol.TheVariants as symbol
 use Rattle.uvl_parser.specs.declared.expression.opening.Opening.{Opening}

@@ -1,7 +1,7 @@
 -- Tests of tokens, as a reader makes them.
 use Rattle.std.specs.Prelude.{Bool, true, false, not, Option, Some, None}
 use Rattle.uvl_lexer.specs.declared.token.TokenKind.TheVariants as token
-use Rattle.uvl_lexer.specs.declared.token.Word.TheVariants as word
+use Rattle.uvl_base.specs.declared.word.Word.TheVariants as word
 use Rattle.uvl_lexer.specs.declared.token.Symbol.TheVariants as symbol
 pub use Rattle.uvl_lexer.specs.Kinds.{Test, number_of_word, number_of_symbol, is_word, is_symbol, is_newline, is_indent, is_dedent, is_finish, begins}
 

@@ -3,7 +3,7 @@ use Rattle.std.specs.Prelude.{◌≡◌, ℕ, ◌/◌, Bool, true, false, List, 
 use Rattle.uvl_lexer.specs.declared.token.Token.{Token}
 use Rattle.uvl_lexer.specs.declared.token.TokenKind.{TokenKind}
 use Rattle.uvl_lexer.specs.declared.token.TokenKind.TheVariants as token
-use Rattle.uvl_lexer.specs.declared.token.Word.{Word}
+use Rattle.uvl_base.specs.declared.word.Word.{Word}
 use Rattle.uvl_lexer.specs.declared.token.Symbol.{Symbol}
 
 -- the token is this reserved word

@@ -4,7 +4,7 @@
 --         | "{" (plain ("," plain)*)? "}" | "[" (value ("," value)*)? "]"
 use Rattle.std.specs.Prelude.{◌≡◌, ℕ, zero, suc, List, [], ◌∷◌, ◌++◌, ℤ, neg_ℤ, Some}
 use Rattle.uvl_lexer.specs.declared.token.Token.{Token}
-use Rattle.uvl_lexer.specs.declared.token.Word.TheVariants as word
+use Rattle.uvl_base.specs.declared.word.Word.TheVariants as word
 use Rattle.uvl_lexer.specs.declared.token.Symbol.TheVariants as symbol
 use Rattle.uvl_ast.specs.declared.feature.Attribute.{Attribute, roll-Attribute}
 use Rattle.uvl_ast.specs.declared.feature.AttrValue.{AttrValue}

@@ -3,7 +3,7 @@ use Rattle.std.specs.Prelude.{◌≡◌, ℕ, ◌+◌, Bool, ◌&&◌, ◌||◌,
 use Rattle.uvl_lexer.specs.declared.token.Token.{Token}
 use Rattle.uvl_lexer.specs.declared.token.TokenKind.{TokenKind}
 use Rattle.uvl_lexer.specs.declared.token.Symbol.TheVariants as symbol
-use Rattle.uvl_lexer.specs.declared.token.Word.TheVariants as word
+use Rattle.uvl_base.specs.declared.word.Word.TheVariants as word
 use Rattle.uvl_profile.specs.declared.nesting.Nesting.{Nesting}
 use Rattle.uvl_profile.specs.declared.scan.Scan.{Scan}
 use Rattle.uvl_profile.specs.declared.section.SectionPart.{SectionPart}

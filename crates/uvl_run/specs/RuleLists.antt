@@ -1,7 +1,7 @@
 -- Lists of rules in the braces behind a feature, told by the tokens of a file.
 use Rattle.std.specs.Prelude.{Bool, false, ◌&&◌, ◌||◌, List, [], ◌∷◌}
 use Rattle.uvl_lexer.specs.declared.token.Token.{Token}
-use Rattle.uvl_lexer.specs.declared.token.Word.TheVariants.{Constraints}
+use Rattle.uvl_base.specs.declared.word.Word.TheVariants.{Constraints}
 use Rattle.uvl_lexer.specs.declared.token.Symbol.TheVariants.{LeftBracket}
 use Rattle.uvl_lexer.specs.Kinds.{begins, is_word, is_symbol}
 

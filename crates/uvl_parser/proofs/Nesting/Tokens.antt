@@ -4,7 +4,7 @@ use Rattle.std.proofs.Common.{refl, ap, ◌∙◌, arith}
 use Rattle.uvl_lexer.specs.declared.token.Token.{Token}
 use Rattle.uvl_lexer.specs.declared.token.TokenKind.{TokenKind}
 use Rattle.uvl_lexer.specs.declared.token.TokenKind.TheVariants as token
-use Rattle.uvl_lexer.specs.declared.token.Word.{Word}
+use Rattle.uvl_base.specs.declared.word.Word.{Word}
 use Rattle.uvl_lexer.specs.declared.token.Symbol.{Symbol}
 use Rattle.uvl_lexer.specs.declared.token.Symbol.TheVariants as symbol
 use Rattle.uvl_parser.specs.Tokens.{IsWord, IsSymbol, name_of, number_of, text_of}

@@ -5,7 +5,7 @@ use Rattle.std.proofs.lemmas.Bool.{and_from, and_left, or_left, or_right, or_fro
 use Rattle.uvl_lexer.specs.declared.token.Token.{Token}
 use Rattle.uvl_lexer.specs.declared.token.TokenKind.{TokenKind}
 use Rattle.uvl_lexer.specs.declared.token.TokenKind.TheVariants as token
-use Rattle.uvl_lexer.specs.declared.token.Word.TheVariants as word
+use Rattle.uvl_base.specs.declared.word.Word.TheVariants as word
 use Rattle.uvl_lexer.specs.declared.token.Symbol.TheVariants as symbol
 use Rattle.uvl_ast.specs.declared.expression.Expr.{Expr}
 use Rattle.uvl_ast.specs.Nodes.{nodes_of}

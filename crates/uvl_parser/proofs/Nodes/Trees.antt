@@ -5,7 +5,7 @@ use Rattle.std.proofs.Common.{refl, sym, subst, arith}
 use Rattle.std.proofs.lemmas.List.Elements.{All-nil, All-append}
 use Rattle.uvl_base.specs.declared.fault.FaultKind.TheVariants.{ExpressionTooLarge}
 use Rattle.uvl_lexer.specs.declared.token.Token.{Token}
-use Rattle.uvl_lexer.specs.declared.token.Word.TheVariants as word
+use Rattle.uvl_base.specs.declared.word.Word.TheVariants as word
 use Rattle.uvl_ast.specs.declared.expression.Expr.{Expr}
 use Rattle.uvl_ast.specs.declared.feature.Feature.{Feature, roll-Feature}
 use Rattle.uvl_ast.specs.declared.feature.Group.{Group, roll-Group}

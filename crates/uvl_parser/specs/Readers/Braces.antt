@@ -1,6 +1,6 @@
 -- Reading what stands in braces behind a feature.
 use Rattle.std.specs.Prelude.{List, [], ◌++◌, Ok}
-use Rattle.uvl_lexer.specs.declared.token.Word.TheVariants as word
+use Rattle.uvl_base.specs.declared.word.Word.TheVariants as word
 use Rattle.uvl_lexer.specs.declared.token.Symbol.TheVariants as symbol
 use Rattle.uvl_ast.specs.declared.expression.Expr.{Expr}
 use Rattle.uvl_parser.specs.Tests.{is_word, is_symbol}

@@ -1,6 +1,6 @@
 -- Reading the tree of features.
 use Rattle.std.specs.Prelude.{ℕ, zero, suc, length, Err}
-use Rattle.uvl_lexer.specs.declared.token.Word.TheVariants as word
+use Rattle.uvl_base.specs.declared.word.Word.TheVariants as word
 use Rattle.uvl_ast.specs.declared.feature.Feature.{Feature, roll-Feature}
 use Rattle.uvl_ast.specs.declared.feature.Group.{Group, roll-Group}
 use Rattle.uvl_parser.specs.Tests.{is_word, is_newline, is_indent, is_dedent, stays}

@@ -1,5 +1,5 @@
 -- Reading a file.
-use Rattle.uvl_lexer.specs.declared.token.Word.TheVariants as word
+use Rattle.uvl_base.specs.declared.word.Word.TheVariants as word
 use Rattle.uvl_ast.specs.declared.file.File.{File}
 use Rattle.uvl_parser.specs.Tests.{is_finish}
 use Rattle.uvl_parser.specs.Reading.{Reader, done, bind, one}

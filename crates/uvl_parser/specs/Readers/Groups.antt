@@ -2,7 +2,7 @@
 use Rattle.std.specs.Prelude.{ℕ, Option, Some, None}
 use Rattle.uvl_lexer.specs.declared.token.TokenKind.{TokenKind}
 use Rattle.uvl_lexer.specs.declared.token.TokenKind.TheVariants as token
-use Rattle.uvl_lexer.specs.declared.token.Word.TheVariants as word
+use Rattle.uvl_base.specs.declared.word.Word.TheVariants as word
 use Rattle.uvl_lexer.specs.declared.token.Symbol.TheVariants as symbol
 use Rattle.uvl_ast.specs.declared.feature.GroupKind.{GroupKind}
 use Rattle.uvl_ast.specs.declared.feature.GroupKind.TheVariants as group

@@ -1,7 +1,7 @@
 -- Reading the sections of a file.
 use Rattle.std.specs.Prelude.{ℕ, List, [], Option, Some, None}
-use Rattle.uvl_lexer.specs.declared.token.Word.{Word}
-use Rattle.uvl_lexer.specs.declared.token.Word.TheVariants as word
+use Rattle.uvl_base.specs.declared.word.Word.{Word}
+use Rattle.uvl_base.specs.declared.word.Word.TheVariants as word
 use Rattle.uvl_ast.specs.declared.names.Ref.{Ref}
 use Rattle.uvl_ast.specs.declared.expression.Expr.{Expr}
 use Rattle.uvl_ast.specs.declared.feature.Feature.{Feature}

@@ -7,7 +7,7 @@ use Rattle.uvl_base.specs.Number.{is_number, is_too_wide, millionths_of, is_poin
 use Rattle.uvl_lexer.specs.declared.token.TokenKind.{TokenKind}
 use Rattle.uvl_lexer.specs.declared.token.TokenKind.TheVariants as token
 use Rattle.uvl_lexer.specs.declared.piece.Lexeme.{Lexeme}
-use Rattle.uvl_lexer.specs.Words.{word_of}
+use Rattle.uvl_base.specs.ReservedWords.{word_of}
 use Rattle.uvl_lexer.specs.Layout.{token_of, word_or_name}
 use Rattle.uvl_lexer.specs.Forms.{HasTokenForm}
 use Rattle.uvl_lexer.specs.Spellings.{IsReadable}
