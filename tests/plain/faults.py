@@ -1,6 +1,6 @@
 """The faults with a name of their own, and what is answered for a whole text."""
 from .grammar import first_dead
-from .lexing import CLOSES, LINE_MARKS, Fault, tokens_of
+from .lexing import CLOSES, LAYOUT_TOKENS, Fault, tokens_of
 
 NAMES = {
     4: "BadCharacter", 5: "BadIndent", 6: "Unclosed", 7: "NumberTooWide", 8: "Syntax", 9: "TypedFeature",
@@ -8,7 +8,7 @@ NAMES = {
     99: "NotBuilt",
 }
 SECTIONS = frozenset(["include", "imports", "features", "constraints"])
-RULE_FRONTS = LINE_MARKS | {",", "[", "{", "constraint"}
+RULE_FRONTS = LAYOUT_TOKENS | {",", "[", "{", "constraint"}
 CONNECTIVES = frozenset(["&", "|", "=>", "<=>"])
 OPERATORS = CONNECTIVES | frozenset(["!", "==", "!=", "<", "<=", ">", ">=", "+", "-", "*"])
 MOST_NODES, MOST_NESTING, MOST_DEPTH, MOST_FEATURES = 8192, 128, 64, 2048
@@ -21,11 +21,11 @@ class Position:
 
     def __init__(self, tokens):
         self.tokens, self.index = tokens, 0
-        self.section, self.levels, self.is_heading = None, 0, False
+        self.section, self.indentations, self.is_heading = None, 0, False
         self.around, self.nodes = [], 0
 
     def is_first(self):
-        return self.index == 0 or self.tokens[self.index - 1].kind in LINE_MARKS
+        return self.index == 0 or self.tokens[self.index - 1].kind in LAYOUT_TOKENS
 
     def back(self, steps):
         """The kind of the token so many in front, or None."""
@@ -33,7 +33,7 @@ class Position:
 
     def section_at(self):
         """The section of this token. Behind its line a section is over, unless a body begins there."""
-        return self.section if self.is_heading or self.levels else None
+        return self.section if self.is_heading or self.indentations else None
 
     def open_brackets(self):
         return sum(1 for kind in self.around if kind != "!")
@@ -47,19 +47,19 @@ class Position:
         self.index += 1
 
     def step_section(self, kind, first):
-        if self.levels:
-            self.levels += {"Indent": 1, "Dedent": -1}.get(kind, 0)
+        if self.indentations:
+            self.indentations += {"Indent": 1, "Dedent": -1}.get(kind, 0)
         elif self.is_heading:
             self.is_heading = kind != "Newline"
         elif kind == "Indent" and self.section and self.back(1) == "Newline":
-            self.levels = 1
+            self.indentations = 1
         else:
             self.section = kind if first and kind in SECTIONS else None
             self.is_heading = self.section is not None
 
     def step_nesting(self, kind):
         """`around` has the open brackets of the line, and each `!` that applies to what follows."""
-        if kind in LINE_MARKS:
+        if kind in LAYOUT_TOKENS:
             self.around = []
         if kind in CONNECTIVES or kind == "," or kind in CLOSES:
             while self.around and self.around[-1] == "!":
@@ -84,7 +84,7 @@ def is_node(tokens, index):
 def is_in_rule(position):
     """Whether a token may stand in a rule: in a line of constraints, or somewhere in braces."""
     section = position.section_at()
-    return section == "constraints" and position.levels == 1 or section == "features" and position.around != []
+    return section == "constraints" and position.indentations == 1 or section == "features" and position.around != []
 
 
 def met_by_tokens(position):
@@ -110,8 +110,8 @@ def met_alive(position):
     kind = position.tokens[position.index].kind
     if is_in_rule(position) and position.nodes == MOST_NODES and is_node(position.tokens, position.index):
         yield 17
-    is_name = position.is_first() or position.back(1) == "Boolean" and position.back(2) in LINE_MARKS
-    if kind == "name" and is_name and position.section_at() == "features" and position.levels == 2 * MOST_DEPTH + 1:
+    is_name = position.is_first() or position.back(1) == "Boolean" and position.back(2) in LAYOUT_TOKENS
+    if kind == "name" and is_name and position.section_at() == "features" and position.indentations == 2 * MOST_DEPTH + 1:
         yield 24
 
 
@@ -133,7 +133,7 @@ def is_built(tokens):
     position, names = Position(tokens), []
     for token in tokens:
         section, kind = position.section_at(), token.kind
-        if section in ("imports", "constraints") and position.levels:
+        if section in ("imports", "constraints") and position.indentations:
             return False
         if section == "features" and position.around and kind != "}":
             return False

@@ -6,7 +6,7 @@ RESERVED = frozenset(
     "len floor ceil true false Boolean String Integer Real".split())
 SYMBOLS = "( ) [ ] { } , . .. ! & | => <=> == != < <= > >= + - * /".split()
 CLOSES = {")": "(", "]": "[", "}": "{"}
-LINE_MARKS = frozenset(["Newline", "Indent", "Dedent"])
+LAYOUT_TOKENS = frozenset(["Newline", "Indent", "Dedent"])
 
 NUMBER = re.compile(r"([0-9]*)\.([0-9]+)|([0-9]+)")
 QUOTED_NAME = re.compile(r'"[^"\r\n]+"')
@@ -79,19 +79,19 @@ class Reader:
     """What is kept between the pieces of a text."""
 
     def __init__(self, text):
-        self.text, self.tokens, self.levels, self.brackets = text, [], [0], []
+        self.text, self.tokens, self.open_indentations, self.brackets = text, [], [0], []
         self.line, self.column, self.indentation, self.in_line = 1, 1, 0, False
 
     def place(self):
         return self.line, self.column
 
-    def mark(self, kind, place):
+    def add_layout(self, kind, place):
         self.tokens.append(Token(kind, place))
 
     def end_line(self):
         """A line ends here, outside brackets, if it has a token."""
         if self.in_line and not self.brackets:
-            self.mark("Newline", self.place())
+            self.add_layout("Newline", self.place())
             self.in_line = False
 
     def read_break(self):
@@ -115,17 +115,17 @@ class Reader:
             at = match.end() if match else at + 1
 
     def lay_out(self, place):
-        """The marks in front of a token, where it is the first of its line."""
+        """The layout tokens in front of a token, where it is the first of its line."""
         if self.in_line or self.brackets:
             return
         self.in_line = True
-        if self.indentation > self.levels[-1]:
-            self.levels.append(self.indentation)
-            self.mark("Indent", place)
-        while self.indentation < self.levels[-1]:
-            self.levels.pop()
-            self.mark("Dedent", place)
-        if self.indentation != self.levels[-1]:
+        if self.indentation > self.open_indentations[-1]:
+            self.open_indentations.append(self.indentation)
+            self.add_layout("Indent", place)
+        while self.indentation < self.open_indentations[-1]:
+            self.open_indentations.pop()
+            self.add_layout("Dedent", place)
+        if self.indentation != self.open_indentations[-1]:
             raise Fault(5, place)
 
     def read_token(self, token):
@@ -168,9 +168,9 @@ class Reader:
         if self.brackets:
             raise Fault(6, self.place())
         self.end_line()
-        for _ in self.levels[1:]:
-            self.mark("Dedent", self.place())
-        self.mark("Finish", self.place())
+        for _ in self.open_indentations[1:]:
+            self.add_layout("Dedent", self.place())
+        self.add_layout("Finish", self.place())
         return self.tokens
 
 
