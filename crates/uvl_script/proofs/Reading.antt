@@ -5,7 +5,8 @@ use Rattle.std.specs.Str.{is_utf8}
 use Rattle.std.proofs.lemmas.Bool.{cases_Bool, cond-true, cond-false, false≢true}
 use Rattle.std.proofs.lemmas.Str.{chars-nil, IsUtf8-from_is_utf8, is_utf8-from_IsUtf8}
 use Rattle.uvl_script.specs.Lines.{is_silent, words_or_fault, words_of_text, words_of_line}
-use Rattle.uvl_script.specs.Words.{words_of, onto, onto_all}
+use Rattle.uvl_script.specs.Words.{words_of, onto}
+use Rattle.uvl_script.specs.steps.Answers.{onto_all}
 use Rattle.uvl_script.specs.declared.fault.WordFault.TheVariants.{BadUtf8, BadName}
 
 -- ---- words one after another
@@ -79,3 +80,22 @@ IsSome-nil = search rules
 -- a blank text is made of words
 pub IsSome-blank : IsSome (words_of (chars []))
 IsSome-blank = subst (λ (words : Option (List (List ℕ))). IsSome words) (sym words_of-nil) IsSome-nil
+
+-- ---- words that are none
+
+onto_all-word : (words more : List (List ℕ)) (word : List ℕ) → onto_all words (Some (word ∷ more)) ≡ Some [] → ⊥
+onto_all-word [] more word e = cc
+onto_all-word (first ∷ words) more word e = cc
+
+-- a text that has a word isn't blank
+pub not_all-blank : (whole left more : Option (List (List ℕ))) (words : List (List ℕ)) (word : List ℕ) → whole ≡ onto_all words left → left ≡ onto word more → IsSome whole
+    → whole ≡ Some [] → ⊥
+not_all-blank whole left None words word so_far first some none = onto_all-none whole left words so_far first some
+not_all-blank whole left (Some more) words word so_far first some none =
+    onto_all-word words more word (ap (λ w. onto_all words w) (sym first) ∙ sym so_far ∙ none)
+
+-- a line without words has a text without words
+pub blank_text : (line : List ℕ) (whole : Option (List (List ℕ))) → IsSome whole → IfSome whole (λ words. words_of_line line ≡ Ok words) → words_of_line line ≡ Ok []
+    → whole ≡ Some []
+blank_text line None some words none = absurd (IsSome-None some)
+blank_text line (Some whole) some words none = let is : words_of_line line ≡ Ok whole = words in cc

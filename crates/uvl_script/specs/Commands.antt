@@ -1,24 +1,35 @@
 -- The commands of a script.
-use Rattle.std.specs.Prelude.{◌≡◌, ◌⊎◌, ℕ, List, [], ◌∷◌, if◌then◌else◌, codes, Result, Ok, Err}
+use Rattle.std.specs.Prelude.{ℕ, List, [], ◌∷◌, if◌then◌else◌, codes, encode_utf8_all, Option, Some, None, Result, Ok, Err}
 use Rattle.std.specs.Str.{bytes_eq}
 use Rattle.uvl_script.specs.declared.command.Command.{Command}
 use Rattle.uvl_script.specs.declared.command.Command.TheVariants.{Valid, Void}
+use Rattle.uvl_script.specs.declared.command.CommandName.{CommandName}
+use Rattle.uvl_script.specs.declared.command.CommandName.TheVariants as called
 use Rattle.uvl_script.specs.declared.fault.LineFault.{LineFault}
-use Rattle.uvl_script.specs.declared.fault.LineFault.TheVariants.{UnknownCommand, WrongArity, OutOfMemory}
+use Rattle.uvl_script.specs.declared.fault.LineFault.TheVariants.{UnknownCommand, WrongArity}
+
+-- the command that some bytes name, if there is one
+abbrev pub command_named : List ℕ → Option CommandName
+command_named bytes =
+    if bytes_eq bytes (codes "valid") then Some called.Valid
+    else if bytes_eq bytes (codes "void") then Some called.Void
+    else None
 
 -- a command that takes no words
 abbrev pub without_words : Command → List (List ℕ) → Result Command LineFault
 without_words command [] = Ok command
 without_words command (word ∷ words) = Err WrongArity
 
+-- the command that is called so, with the words behind its name
+abbrev pub command_with : CommandName → List (List ℕ) → Result Command LineFault
+command_with called.Valid words = Ok (Valid words)
+command_with called.Void words = without_words Void words
+
+-- where there is such a command it is told by its words
+abbrev pub command_or_fault : Option CommandName → List (List ℕ) → Result Command LineFault
+command_or_fault None words = Err UnknownCommand
+command_or_fault (Some name) words = command_with name words
+
 -- the command of this name with the words behind it
 abbrev pub command_of : List ℕ → List (List ℕ) → Result Command LineFault
-command_of name words =
-    if bytes_eq name (codes "valid") then Ok (Valid words)
-    else (if bytes_eq name (codes "void") then without_words Void words
-    else Err UnknownCommand)
-
--- A command or a fault is answered as it is; where it is a command, memory may have been wanting.
-abbrev pub IsAnsweredBy : Result Command LineFault → Result Command LineFault → Type 0
-IsAnsweredBy (Ok command) result = (result ≡ Ok command) ⊎ (result ≡ Err OutOfMemory)
-IsAnsweredBy (Err fault) result = result ≡ Err fault
+command_of name words = command_or_fault (command_named (encode_utf8_all name)) words

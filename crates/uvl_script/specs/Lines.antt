@@ -1,6 +1,7 @@
 -- What a line of a script says.
-use Rattle.std.specs.Prelude.{◌≡◌, ◌⊎◌, ℕ, Bool, true, ◌==◌, nat_lt, List, [], ◌∷◌, length, if◌then◌else◌, chars, Option, Some, None, Result, Ok, Err}
+use Rattle.std.specs.Prelude.{ℕ, Bool, true, ◌==◌, nat_lt, List, [], ◌∷◌, length, if◌then◌else◌, chars, Option, Some, None, Result, Ok, Err}
 use Rattle.std.specs.Str.{is_utf8}
+pub use Rattle.uvl_base.specs.Limits.{most_line_bytes}
 use Rattle.uvl_script.specs.Commands.{command_of}
 use Rattle.uvl_script.specs.Words.{is_separator, words_of}
 use Rattle.uvl_script.specs.declared.command.Command.{Command}
@@ -8,10 +9,6 @@ use Rattle.uvl_script.specs.declared.fault.LineFault.{LineFault}
 use Rattle.uvl_script.specs.declared.fault.WordFault.{WordFault}
 use Rattle.uvl_script.specs.declared.fault.LineFault.TheVariants as line_fault
 use Rattle.uvl_script.specs.declared.fault.WordFault.TheVariants as word_fault
-
--- the most bytes of a line, its line end not counted
-abbrev pub most_line_bytes : ℕ
-most_line_bytes = 65536
 
 -- a line without the CR at its end, where it has one
 abbrev pub without_cr : List ℕ → List ℕ
@@ -59,9 +56,3 @@ abbrev pub reading_of : List ℕ → Result (Option Command) LineFault
 reading_of line =
     if nat_lt most_line_bytes (length (without_cr line)) then Err line_fault.TooLong
     else reading_of_words (words_of_line (without_cr line))
-
--- A reading is answered as it is; where it is a command, memory may have been wanting.
-abbrev pub IsAnswered : Result (Option Command) LineFault → Result (Option Command) LineFault → Type 0
-IsAnswered (Ok (Some command)) result = (result ≡ Ok (Some command)) ⊎ (result ≡ Err line_fault.OutOfMemory)
-IsAnswered (Ok None) result = result ≡ Ok None
-IsAnswered (Err fault) result = result ≡ Err fault

@@ -66,8 +66,3 @@ if_names (Some words) = if list_all is_name words then Some words else None
 -- the words of a text, or none where it isn't made of words that are names
 abbrev pub words_of : List ℕ → Option (List (List ℕ))
 words_of text = if_names (cut outside text)
-
--- words in front of the words behind them
-abbrev pub onto_all : List (List ℕ) → Option (List (List ℕ)) → Option (List (List ℕ))
-onto_all words None = None
-onto_all words (Some more) = Some (words ++ more)

@@ -1,7 +1,8 @@
 //! The commands of a script.
-ghost use Rattle.std.specs.Prelude.{◌≡◌, ◌⊎◌, chars, Some, IsSome, IfSome, IsTrue};
-ghost use Rattle.uvl_script.specs.Commands.{command_of, without_words, IsAnsweredBy};
+ghost use Rattle.std.specs.Prelude.{◌≡◌, ◌⊎◌, chars, Some, IsSome, IfSome, IfOk, IfErr, IsTrue};
+ghost use Rattle.uvl_script.specs.Commands as spec;
 ghost use Rattle.uvl_script.specs.Words.{words_of};
+ghost use Rattle.uvl_script.specs.steps.Answers.{IsAnsweredBy};
 
 use crate::fault::LineFault;
 use crate::words::{copy_words, is_blank};
@@ -21,22 +22,59 @@ pub enum Command {
     Void,
 }
 
+/// What a command is called. Its words behind the name are another matter.
+#[derive(Clone, Copy, Debug, PartialEq, Eq)]
+pub(crate) enum CommandName {
+    Valid,
+    Void,
+}
+
 /// The command of this name with the words of `text` behind it.
 pub(crate) fn command_of(alloc: Global, name: &str, text: &str) -> Result<Command, LineFault>
     requires { IsSome (words_of (chars text.now)) }
-    ensures { IfSome (words_of (chars text.now)) (λ words. IsAnsweredBy (command_of (chars name.now) words) result) }
+    ensures { IfSome (words_of (chars text.now)) (λ words. IsAnsweredBy (spec.command_of (chars name.now) words) result) }
+{
+    match command_named(name) {
+        Some(name) => command_with(alloc, name, text),
+        None => Err(LineFault::UnknownCommand),
+    }
+}
+
+/// The command that is called so, if there is one.
+fn command_named(name: &str) -> Option<CommandName>
+    ensures { result ≡ spec.command_named name.now }
 {
     match name {
-        "valid" => Ok(Command::Valid(Names::from_vec(copy_words(alloc, text)?))),
-        "void" => without_words(Command::Void, text),
-        _ => Err(LineFault::UnknownCommand),
+        "valid" => Some(CommandName::Valid),
+        "void" => Some(CommandName::Void),
+        _ => None,
     }
+}
+
+/// The command that is called so, with the words of `text` behind its name.
+fn command_with(alloc: Global, name: CommandName, text: &str) -> Result<Command, LineFault>
+    requires { IsSome (words_of (chars text.now)) }
+    ensures { IfSome (words_of (chars text.now)) (λ words. IsAnsweredBy (spec.command_with name words) result) }
+{
+    match name {
+        CommandName::Valid => Ok(Command::Valid(any_names(alloc, text)?)),
+        CommandName::Void => without_words(Command::Void, text),
+    }
+}
+
+/// The words of a command that takes any names.
+fn any_names(alloc: Global, text: &str) -> Result<Names, LineFault>
+    requires { IsSome (words_of (chars text.now)) }
+    ensures names { IfOk result (λ names. words_of (chars text.now) ≡ Some names) }
+    ensures memory { IfErr result (λ fault. fault ≡ LineFault.OutOfMemory) }
+{
+    Ok(Names::from_vec(copy_words(alloc, text)?))
 }
 
 /// A command that takes no words.
 fn without_words(command: Command, text: &str) -> Result<Command, LineFault>
     requires { IsSome (words_of (chars text.now)) }
-    ensures { IfSome (words_of (chars text.now)) (λ words. result ≡ without_words command words) }
+    ensures { IfSome (words_of (chars text.now)) (λ words. IsAnsweredBy (spec.without_words command words) result) }
 {
     if is_blank(text) {
         Ok(command)

@@ -8,7 +8,9 @@ mod words;
 
 pub use command::{Command, Names};
 pub use fault::{LineFault, WordFault};
-pub use line::{MOST_LINE_BYTES, read_line, split_words};
+pub use line::{read_line, split_words};
+pub use uvl_base::MOST_LINE_BYTES;
+pub use words::every_text_has_its_words;
 
 #[cfg(test)]
 mod tests;

@@ -1,17 +1,15 @@
 //! The reading of a line.
-ghost use Rattle.std.specs.Prelude.{◌≡◌, ◌⊎◌, chars, None, Some, Ok, Err, IfOk, IfErr, IfSome, IsSome, IsErrOf};
-ghost use Rattle.uvl_script.specs.Lines.{without_cr, is_silent, words_of_line, reading_of, reading_of_words, IsAnswered};
+ghost use Rattle.std.specs.Prelude.{◌≡◌, ◌⊎◌, chars, None, Some, Ok, Err, IfOk, IfErr, IfSome, IsOk, IsSome, []};
+ghost use Rattle.uvl_script.specs.Lines.{without_cr, is_silent, words_of_line, reading_of, reading_of_words};
 ghost use Rattle.uvl_script.specs.Words.{words_of};
+ghost use Rattle.uvl_script.specs.steps.Answers.{IsAnswered};
 
 use crate::command::{Command, command_of};
 use crate::fault::{LineFault, WordFault};
 use crate::words::{after_separators, copy_words, has_words, split_word};
 use std::alloc::Global;
 use std::str;
-use uvl_base::Name;
-
-/// The most bytes of a line, its line end not counted.
-pub const MOST_LINE_BYTES: usize = 65_536;
+use uvl_base::{MOST_LINE_BYTES, Name};
 
 /// Reads a line, given without its LF; a CR at its end belongs to the line end. `None` is a line
 /// that has no reply: it is blank, or its first character but spaces and tabs is `#`. Each fault
@@ -40,12 +38,13 @@ fn read_words(alloc: Global, line: &[u8]) -> Result<Option<Command>, LineFault>
 }
 
 /// The words of a line, given without its LF; a CR at its end belongs to the line end. A line that
-/// is blank, or whose first character but spaces and tabs is `#`, has none. A line has no longest
-/// length here.
+/// is blank, or whose first character but spaces and tabs is `#`, has none, and takes no memory. A
+/// line has no longest length here.
 pub fn split_words(alloc: Global, line: &[u8]) -> Result<Vec<Name>, WordFault>
     ensures words { IfOk result (λ words. words_of_line (without_cr line.now) ≡ Ok words.items) }
     ensures cause { IfErr result (λ fault. (words_of_line (without_cr line.now) ≡ Err fault) ⊎ (fault ≡ WordFault.OutOfMemory)) }
     ensures refused { IfErr (words_of_line (without_cr line.now)) (λ fault. result ≡ Err fault) }
+    ensures silent { words_of_line (without_cr line.now) ≡ Ok [] → IsOk result }
 {
     let text = text_of_words(without_cr(line))?;
     Ok(copy_words(alloc, text)?)

@@ -1,15 +1,16 @@
 //! The words of a text.
-ghost use Rattle.std.specs.Prelude.{⊤, List, ℕ, ◌≡◌, ◌↔◌, ◌≤◌, ◌<◌, [], ◌∷◌, ◌++◌, drop, length, chars, Some, None, IsTrue, IsFalse, IsSome, IfOk, OnErr, is_some, MatchOption, MatchResult};
+ghost use Rattle.std.specs.Prelude.{⊤, List, ℕ, ◌≡◌, ◌↔◌, ◌≤◌, ◌<◌, [], ◌∷◌, ◌++◌, drop, length, chars, Some, None, IsTrue, IsFalse, IsOk, IsSome, IfOk, OnErr, is_some, MatchOption, MatchResult};
 ghost use Rattle.std.specs.List.{list_all, prefix_len};
 ghost use Rattle.uvl_base.specs.Name.{is_name};
-ghost use Rattle.uvl_script.specs.Words.{is_separator, is_solid, is_unquote, ends_word, outside, in_quotes, cut, onto, words_of, onto_all, IsMadeOf};
+ghost use Rattle.uvl_script.specs.Words.{is_separator, is_solid, is_unquote, ends_word, outside, in_quotes, cut, onto, words_of, IsMadeOf};
+ghost use Rattle.uvl_script.specs.steps.Answers.{onto_all};
 
 use crate::fault::WordFault;
 use std::alloc::{AllocError, Global};
 use uvl_base::{Name, NameFault, OutOfMemory, is_name};
 
 /// The words of a text are those that it is made of, and it is made of no others.
-pub(crate) fn every_text_has_its_words()
+pub fn every_text_has_its_words()
     ensures made { (text : List ℕ) (words : List (List ℕ)) → words_of text ≡ Some words → IsMadeOf text words }
     ensures alone { (text : List ℕ) (words : List (List ℕ)) → IsMadeOf text words → words_of text ≡ Some words }
 {}
@@ -31,7 +32,8 @@ pub(crate) fn has_words(text: &str) -> bool
 /// The words of a text, each copied once.
 pub(crate) fn copy_words(alloc: Global, text: &str) -> Result<Vec<Name>, OutOfMemory>
     requires { IsSome (words_of (chars text.now)) }
-    ensures { IfOk result (λ words. words_of (chars text.now) ≡ Some words.items) }
+    ensures words { IfOk result (λ words. words_of (chars text.now) ≡ Some words.items) }
+    ensures blank { words_of (chars text.now) ≡ Some [] → IsOk result }
 {
     let mut words = Vec::new(alloc);
     let mut rest = text;

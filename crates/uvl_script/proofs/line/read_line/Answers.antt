@@ -1,6 +1,7 @@
 -- A line that isn't too long is read by its words.
 use Rattle.std.proofs.Common.{Option, Result, sym, subst}
-use Rattle.uvl_script.specs.Lines.{reading_of, IsAnswered}
+use Rattle.uvl_script.specs.Lines.{reading_of}
+use Rattle.uvl_script.specs.steps.Answers.{IsAnswered}
 use Rattle.uvl_script.specs.declared.command.Command.{Command}
 use Rattle.uvl_script.specs.declared.fault.LineFault.{LineFault}
 use Rattle.uvl_script.proofs.Commands.{reading_is, answer_is, cause_is, refusal_is}

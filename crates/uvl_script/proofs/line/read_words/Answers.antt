@@ -1,6 +1,7 @@
 -- The first word names the command.
 use Rattle.std.proofs.Common.{Ok, Err, Option, Result, sym, subst}
-use Rattle.uvl_script.specs.Lines.{reading_of_words, words_of_line, IsAnswered}
+use Rattle.uvl_script.specs.Lines.{reading_of_words, words_of_line}
+use Rattle.uvl_script.specs.steps.Answers.{IsAnswered}
 use Rattle.uvl_script.specs.declared.command.Command.{Command}
 use Rattle.uvl_script.specs.declared.fault.LineFault.{LineFault}
 use Rattle.uvl_script.proofs.Commands.{IsSome-behind, answered_line, error_is}
