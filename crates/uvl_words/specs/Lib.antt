@@ -1,0 +1,5 @@
+pub mod Budgets
+pub mod CommandLine
+pub mod CommandLineForms
+pub mod CommandLineRules
+pub mod Requests
