@@ -1,0 +1,3 @@
+-- What private functions do, as functions on bytes.
+pub mod FirstLine
+pub mod Kept
