@@ -3,8 +3,12 @@
 
 mod answerer;
 mod ending;
+mod first_line;
+mod laws;
+mod reply;
 mod script;
 
 pub use answerer::{AnswerFault, Answerer};
 pub use ending::Ending;
+pub use laws::every_script_has_one_cut;
 pub use script::answer_lines;
