@@ -15,11 +15,11 @@ use Rattle.uvl_ast.specs.Operands.{right_operands}
 use Rattle.uvl_parser.specs.declared.fault.ParseFault.{ParseFault}
 use Rattle.uvl_parser.specs.declared.fault.ParseFault.TheVariants.{At, OutOfMemory}
 use Rattle.uvl_parser.specs.Parsing.{IsParsedAs, IsRefusedAt, OnFault}
-use Rattle.uvl_parser.proofs.Shallow.{IsShallow, file_shallow}
+use Rattle.uvl_faults.proofs.Shallow.{IsShallow, file_shallow}
 use Rattle.uvl_parser.proofs.Once.{never_both}
-use Rattle.uvl_parser.proofs.Nodes.Trees.{file_few}
-use Rattle.uvl_parser.proofs.Parts.Members.{within_depth, within_members}
-use Rattle.uvl_parser.proofs.Nesting.Files.{file_nested, file_grouped}
+use Rattle.uvl_faults.proofs.Nodes.Trees.{file_few}
+use Rattle.uvl_faults.proofs.Members.{within_depth, within_members}
+use Rattle.uvl_faults.proofs.Nesting.Files.{file_nested, file_grouped}
 
 module _ (tokens : List Token) where
   abbrev Refuses : ParseFault → Type 0

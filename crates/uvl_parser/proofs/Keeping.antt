@@ -5,13 +5,13 @@ use Rattle.uvl_lexer.specs.declared.token.Token.{Token}
 use Rattle.uvl_lexer.specs.declared.token.Symbol.TheVariants as symbol
 use Rattle.uvl_ast.specs.declared.expression.Expr.{Expr}
 use Rattle.uvl_ast.specs.declared.feature.Attribute.{Attribute}
-use Rattle.uvl_parser.specs.declared.braces.Entry.{Entry}
-use Rattle.uvl_parser.specs.declared.braces.Entry.TheVariants.{Plain, Rule, Rules}
-use Rattle.uvl_parser.specs.Braces.{attributes_of, rules_of}
-use Rattle.uvl_parser.specs.Tests.{is_symbol, begins}
-use Rattle.uvl_parser.specs.Reading.{Read, ◌>>=◌, done, bind, one, choose, many, behind_comma, separated, with_front}
+use Rattle.uvl_grammar.specs.declared.entry.Entry.{Entry}
+use Rattle.uvl_grammar.specs.declared.entry.Entry.TheVariants.{Plain, Rule, Rules}
+use Rattle.uvl_grammar.specs.Braces.{attributes_of, rules_of}
+use Rattle.uvl_grammar.specs.steps.Tests.{is_symbol, begins}
+use Rattle.uvl_grammar.specs.steps.Reading.{Read, ◌>>=◌, done, bind, one, choose, many, behind_comma, separated, with_front}
 use Rattle.uvl_base.specs.declared.place.Place.{Place}
-use Rattle.uvl_parser.specs.Readers.Braces.{entry, braces, kept, kept_behind, kept_closed}
+use Rattle.uvl_grammar.specs.steps.Braces.{entry, braces, kept, kept_behind, kept_closed}
 use Rattle.uvl_parser.proofs.Turns.{TurnsLeft, turns_begin, turn_taken, turn_failed, turn_ended, turns_over}
 
 attributes_of-append : (xs ys : List Entry) → attributes_of (xs ++ ys) ≡ attributes_of xs ++ attributes_of ys

@@ -11,11 +11,11 @@ use Rattle.uvl_base.specs.declared.word.Word.TheVariants as word
 use Rattle.uvl_lexer.specs.declared.token.Symbol.{Symbol}
 use Rattle.uvl_lexer.specs.declared.token.Symbol.TheVariants as symbol
 use Rattle.uvl_base.specs.ReservedWords.{characters_of_word}
-use Rattle.uvl_parser.specs.Tests.{begins, is_newline}
-use Rattle.uvl_parser.specs.Sections.{level_part, written_name, joined}
-use Rattle.uvl_parser.specs.Reading.{Read, ◌>>=◌, done, bind, one, accept, accepted, one_or_more, many, repeat, with_front}
-use Rattle.uvl_parser.specs.Readers.Sections.{is_level_part, level_token, level}
-use Rattle.uvl_parser.specs.Readers.Levels.{text_onto, texts_onto, line_text, level_text, Pushes}
+use Rattle.uvl_grammar.specs.steps.Tests.{begins, is_newline}
+use Rattle.uvl_grammar.specs.Sections.{level_part, written_name, joined}
+use Rattle.uvl_grammar.specs.steps.Reading.{Read, ◌>>=◌, done, bind, one, accept, accepted, one_or_more, many, repeat, with_front}
+use Rattle.uvl_grammar.specs.steps.Sections.{is_level_part, level_token, level}
+use Rattle.uvl_parser.specs.steps.LanguageLevels.{text_onto, texts_onto, line_text, level_text, Pushes}
 use Rattle.uvl_parser.proofs.Turns.{turns_out, turns_end, turn_reads, turn_stops}
 
 -- ---- what is put behind a text

@@ -13,23 +13,19 @@ use Rattle.uvl_lexer.specs.TokenList.{IsTokenList}
 use Rattle.uvl_ast.specs.declared.file.File.{File}
 use Rattle.uvl_profile.specs.declared.candidate.Candidate.{Candidate}
 use Rattle.uvl_profile.specs.declared.candidate.Met.{Met}
-use Rattle.uvl_parser.specs.File.{Spells}
-use Rattle.uvl_parser.specs.Named.{Typed, Cardinal, Averaged, Unsupported, Nested, Large, Deep, Named, By_tokens, Where_alive, NoneNamed, LowestNamed, IsFirstNamed}
+use Rattle.uvl_grammar.specs.File.{Spells}
+use Rattle.uvl_faults.specs.Named.{Typed, Cardinal, Averaged, Unsupported, Nested, Large, Deep, Named, By_tokens, Where_alive, NoneNamed, LowestNamed, IsFirstNamed}
 use Rattle.uvl_profile.specs.First.{in_front}
 use Rattle.uvl_profile.specs.Met.{met_of}
 use Rattle.uvl_parser.specs.Parsing.{IsParsedAs, IsSyntax, IsFaultAt, IsRefusedAt, IsParsedOnce}
-use Rattle.uvl_parser.specs.Reading.{Read}
-use Rattle.uvl_parser.specs.Readers.File.{file}
-use Rattle.uvl_parser.proofs.Naming.{none_named, named_first, named_within}
-use Rattle.uvl_parser.proofs.Shallow.{spelled_alive}
-use Rattle.uvl_parser.proofs.Parsed.{reads_all, refused_there, all_read, all_stuck, front_read, all_taken, last_stuck, front_stuck}
+use Rattle.uvl_grammar.specs.steps.Reading.{Read}
+use Rattle.uvl_grammar.specs.steps.File.{file}
+use Rattle.uvl_faults.proofs.Naming.{none_named, named_first, named_within}
+use Rattle.uvl_faults.proofs.Shallow.{spelled_alive}
+use Rattle.uvl_grammar.proofs.WholeFiles.{one_file}
+use Rattle.uvl_parser.proofs.Parsed.{refused_there, all_read, all_stuck, front_read, all_taken, last_stuck, front_stuck}
 
 -- ---- one fault
-
--- the file that was read
-abbrev file_of : Read File → File → File
-file_of (Ok r) f = r.0
-file_of (Err left) f = f
 
 -- the named fault of a number
 kind_of : ℕ → FaultKind
@@ -87,15 +83,11 @@ module _ (tokens : List Token) where
       by_cause (inl named) = parsed.unnamed refused.k kind named.named
       by_cause (inr syntax) = spelled_alive tokens f refused.k parsed.spelled syntax.dead
 
-  pub one_file : (f other : File) → Spells tokens f → Spells tokens other → other ≡ f
-  one_file f other spelled also =
-      ap (λ r. file_of r f) (sym (reads_all tokens other also) ∙ reads_all tokens f spelled)
-
   has_file : (f : File) → IsParsedAs tokens f → IsParsedOnce tokens
   has_file f parsed = inl (record {
     file = f;
     parsed = parsed;
-    one = λ other also. one_file f other parsed.spelled also.spelled;
+    one = λ other also. one_file tokens f other parsed.spelled also.spelled;
     never_refused = never_both f parsed;
   })
 

@@ -1,4 +1,4 @@
--- What reading a list of tokens tells of it: the file that it spells, or its first dead token.
+-- What reading tells of the file that tokens are parsed as, or of their first fault.
 use Rattle.std.specs.Prelude.{◌≡◌, ℕ, suc, ◌+◌, ◌-◌, ◌≤◌, ◌<◌, List, [], ◌∷◌, ◌++◌, length, take, drop, slice_get, Ok, Err, Option, Some, None, MatchOption}
 use Rattle.std.specs.Option.{unwrap_or}
 use Rattle.std.proofs.Common.{refl, sym, ap, subst, ◌∙◌, inl, inr, arith, append_assoc, append-nil, length-append}
@@ -8,101 +8,17 @@ use Rattle.uvl_base.specs.declared.fault.FaultKind.{FaultKind}
 use Rattle.uvl_base.specs.declared.fault.FaultKind.TheVariants.{Syntax}
 use Rattle.uvl_lexer.specs.declared.token.Token.{Token}
 use Rattle.uvl_lexer.specs.declared.token.TokenKind.TheVariants as token
-use Rattle.uvl_lexer.specs.TokenList.{IsTokenList, AreInner, IsInner}
+use Rattle.uvl_lexer.specs.TokenList.{IsTokenList}
 use Rattle.uvl_ast.specs.declared.file.File.{File}
 use Rattle.uvl_profile.specs.declared.candidate.Candidate.{Candidate}
-use Rattle.uvl_parser.specs.File.{Spells, A_file}
-use Rattle.uvl_parser.specs.Dead.{Dead}
-use Rattle.uvl_parser.specs.Named.{NoneNamed, LowestNamed, IsFirstNamed}
+use Rattle.uvl_grammar.specs.File.{Spells}
+use Rattle.uvl_grammar.specs.Dead.{Dead}
+use Rattle.uvl_faults.specs.Named.{NoneNamed, LowestNamed, IsFirstNamed}
 use Rattle.uvl_parser.specs.Parsing.{IsParsedAs, IsFaultAt, IsRefusedAt}
-use Rattle.uvl_parser.specs.Reading.{Read}
-use Rattle.uvl_parser.specs.Readers.File.{file}
-use Rattle.uvl_parser.proofs.Readers.{Good, Outcome, ReadsOn, StopsAt, SameHead}
-use Rattle.uvl_parser.proofs.Completing.{Complete, Anything}
-use Rattle.uvl_parser.proofs.Parts.File.{file_good, file_complete}
-use Rattle.uvl_parser.proofs.Parts.Endings.{NoFinish, only_last, finish_last}
-use Rattle.uvl_parser.proofs.Shallow.{spelled_alive}
-
--- ---- what is spelled is read, and what is read is spelled
-
-pub reads : (xs : List Token) (f : File) (rest : List Token) → Spells xs f → file (xs ++ rest) ≡ Ok (f, rest)
-reads xs f rest spelled =
-    let complete : Complete (λ m. file) Spells Anything 0 = file_complete in
-    complete.reads 0 (omega arith) xs f rest spelled tt
-
-pub reads_all : (xs : List Token) (f : File) → Spells xs f → file xs ≡ Ok (f, [])
-reads_all xs f spelled = ap file (sym (append-nil xs)) ∙ reads xs f [] spelled
-
-abbrev Stops : List Token → ℕ → Type 0
-Stops ts left = StopsAt (λ m. file) Spells 0 ts left
-
-abbrev Reads : List Token → File → List Token → Type 0
-Reads ts f rest = ReadsOn (λ m. file) Spells 0 ts f rest
-
-outcome : (ts : List Token) (r : Read File) → file ts ≡ r → Outcome (λ m. file) Spells 0 ts r
-outcome ts r is =
-    let good : Good (λ m. file) Spells 0 (suc (length ts)) = file_good in
-    subst (λ r. Outcome (λ m. file) Spells 0 ts r) is (good.at ts (omega arith))
-
--- ---- where reading stops
-
--- the token at which reading stops is dead
-stopped_dead : (ts : List Token) (left : ℕ) (o : Stops ts left) (t : Token) (behind : List Token) → o.rest ≡ t ∷ behind → Dead ts (length o.front)
-stopped_dead ts left o t behind rest others f spelled =
-    let front : take (length o.front + 1) ts ≡ o.front ++ t ∷ [] =
-    ap (take (length o.front + 1)) (o.splits ∙ ap (λ z. o.front ++ z) rest) ∙ take-append-add o.front (t ∷ behind) 1 in
-    let joins : take (length o.front + 1) ts ++ others ≡ o.front ++ t ∷ others = ap (λ z. z ++ others) front ∙ append_assoc o.front (t ∷ []) others in
-    let read = reads_all (o.front ++ t ∷ others) f (subst (λ z. Spells z f) joins spelled) in
-    let same : SameHead o.rest (t ∷ others) = subst (λ z. SameHead z (t ∷ others)) (sym rest) refl in
-    let stops = o.again 0 (omega arith) (t ∷ others) same in
-    cc
-
--- none in front of it is
-stopped_alive : (ts : List Token) (left : ℕ) (o : Stops ts left) (j : ℕ) → j < length o.front → Dead ts j → ⊥
-stopped_alive ts left o j before dead =
-    let within : j + 1 ≤ length o.front = omega arith in
-    let joins : o.front ++ o.more ≡ take (j + 1) ts ++ (drop (j + 1) o.front ++ o.more) =
-    ap (λ z. z ++ o.more) (sym (take-append-drop (j + 1) o.front))
-    ∙ append_assoc (take (j + 1) o.front) (drop (j + 1) o.front) o.more
-    ∙ ap (λ z. z ++ (drop (j + 1) o.front ++ o.more)) (sym (ap (take (j + 1)) o.splits ∙ take-append-le (j + 1) o.front o.rest within)) in
-    dead (drop (j + 1) o.front ++ o.more) o.value (subst (λ z. Spells z o.value) joins o.completed)
-
--- ---- a list of tokens ends with its Finish
-
-no_finish : (ts : List Token) → AreInner ts → NoFinish ts
-no_finish [] inner = tt
-no_finish (t ∷ ts) inner = ((λ is. subst IsInner is inner.0), no_finish ts inner.1)
-
--- a file ends with its Finish
-record EndsFile (tokens : List Token) : Type 0 where
-  front : List Token
-  finish : Token
-  joins : tokens ≡ front ++ finish ∷ []
-  is : finish.kind ≡ token.Finish
-
-ends_file : (tokens : List Token) (f : File) → Spells tokens f → EndsFile tokens
-ends_file tokens f (A_file {ns} {ls} {ms} {fs} {rs} finish named included imported tree ruled is) =
-    record { front = ns ++ ls ++ ms ++ fs ++ rs; finish = finish; joins = refl; is = is }
-
--- so nothing is behind a file in it
-nothing_behind : (ts : List Token) → IsTokenList ts → (xs rest : List Token) (f : File) → ts ≡ xs ++ rest → Spells xs f → rest ≡ []
-nothing_behind ts list xs rest f splits spelled =
-    let ends = ends_file xs f spelled in
-    let joins : list.front ++ list.end ∷ [] ≡ ends.front ++ ends.finish ∷ rest =
-    sym list.joined ∙ splits ∙ ap (λ z. z ++ rest) ends.joins ∙ append_assoc ends.front (ends.finish ∷ []) rest in
-    only_last list.front (no_finish list.front list.inner) list.end ends.front ends.finish rest joins ends.is
-
--- and reading it never runs out of tokens
-never_out : (ts : List Token) → IsTokenList ts → (left : ℕ) → file ts ≡ Err left → (o : Stops ts left) → o.rest ≡ [] → ⊥
-never_out ts list left stuck o rest =
-    let whole : ts ≡ o.front = o.splits ∙ ap (λ z. o.front ++ z) rest ∙ append-nil o.front in
-    let joins : o.front ++ o.more ≡ list.front ++ list.end ∷ o.more =
-    ap (λ z. z ++ o.more) (sym whole ∙ list.joined) ∙ append_assoc list.front (list.end ∷ []) o.more in
-    let none = finish_last list.front list.end o.more o.value (subst (λ z. Spells z o.value) joins o.completed) list.finish in
-    let spelled : Spells ts o.value =
-    subst (λ z. Spells z o.value) (ap (λ z. o.front ++ z) none ∙ append-nil o.front ∙ sym whole) o.completed in
-    let read = reads_all ts o.value spelled in
-    cc
+use Rattle.uvl_grammar.specs.steps.Reading.{Read}
+use Rattle.uvl_grammar.specs.steps.File.{file}
+use Rattle.uvl_grammar.proofs.WholeFiles.{Stops, Reads, outcome, stopped_dead, stopped_alive, nothing_behind, never_out, same_front, same_dead, dead_same}
+use Rattle.uvl_faults.proofs.Shallow.{spelled_alive}
 
 -- ---- the first fault
 
@@ -145,21 +61,6 @@ module _ (ts : List Token) (list : IsTokenList ts) (unnamed : (k : ℕ) → None
   all_stuck left stuck = let o : Stops ts left = outcome ts (Err left) stuck in stopped_at left stuck o o.rest refl
 
 -- ---- up to the first named fault, or what would be one
-
--- the tokens up to and with it say as much of those in front of it as all tokens do
-same_front : (ts : List Token) (n j : ℕ) → j < n → n ≤ length ts → take (j + 1) (take n ts) ≡ take (j + 1) ts
-same_front ts n j before within =
-    let joins : ts ≡ take n ts ++ drop n ts = sym (take-append-drop n ts) in
-    let some : j + 1 ≤ length (take n ts) = omega (arith, length-take n ts) in
-    sym (ap (take (j + 1)) joins ∙ take-append-le (j + 1) (take n ts) (drop n ts) some)
-
-same_dead : (ts : List Token) (n j : ℕ) → j < n → n ≤ length ts → Dead ts j → Dead (take n ts) j
-same_dead ts n j before within dead others f spelled =
-    dead others f (subst (λ z. Spells (z ++ others) f) (same_front ts n j before within) spelled)
-
-dead_same : (ts : List Token) (n j : ℕ) → j < n → n ≤ length ts → Dead (take n ts) j → Dead ts j
-dead_same ts n j before within dead others f spelled =
-    dead others f (subst (λ z. Spells (z ++ others) f) (sym (same_front ts n j before within)) spelled)
 
 module _ (ts : List Token) (list : IsTokenList ts) (c : Candidate) (first : IsFirstNamed ts c) where
   abbrev upto : List Token

@@ -3,10 +3,11 @@
 use Rattle.std.specs.Prelude.{◌≡◌, ℕ, zero, suc, ◌-◌, ◌+◌, ◌<◌, ◌≤◌, length, cond, true, false, List, [], ◌∷◌, ◌++◌, Ok, Err}
 use Rattle.std.proofs.Common.{refl, sym, ap, ◌∙◌, append_assoc, append-nil, arith}
 use Rattle.uvl_lexer.specs.declared.token.Token.{Token}
-use Rattle.uvl_parser.specs.Tests.{Test, begins}
+use Rattle.uvl_grammar.specs.steps.Tests.{Test, begins}
 use Rattle.uvl_parser.specs.declared.reading.Stop.{Stop}
 use Rattle.uvl_parser.specs.declared.reading.Stop.TheVariants.{Stuck, OutOfMemory}
-use Rattle.uvl_parser.specs.Reading.{Read, Reader, Fails, ◌>>=◌, done, bind, choose, repeat, many, with_front}
+use Rattle.uvl_grammar.specs.steps.Reading.{Read, Reader, ◌>>=◌, done, bind, choose, repeat, many, with_front}
+use Rattle.uvl_parser.specs.steps.Gives.{Fails}
 
 module _ {A : Type 0} (test : Test) (p : Reader A) (front : List A) where
   -- no turn is left

@@ -6,18 +6,18 @@ use Rattle.std.proofs.lemmas.Bool.{both_ways}
 use Rattle.uvl_base.specs.declared.fault.FaultKind.{FaultKind}
 use Rattle.uvl_lexer.specs.declared.token.Token.{Token}
 use Rattle.uvl_ast.specs.declared.file.File.{File}
-use Rattle.uvl_parser.specs.File.{Spells}
-use Rattle.uvl_parser.specs.Named.{in_front, Named, By_tokens, Where_alive, IsMetAlive, Large, Deep}
+use Rattle.uvl_grammar.specs.File.{Spells}
+use Rattle.uvl_faults.specs.Named.{in_front, Named, By_tokens, Where_alive, IsMetAlive, Large, Deep}
 use Rattle.uvl_parser.specs.Parsing.{IsParsedAs}
 use Rattle.uvl_parser.specs.Limits.{KeepsLimits, NoneMet}
-use Rattle.uvl_parser.proofs.Walking.{walk, walk_reverse, Clear}
-use Rattle.uvl_parser.proofs.Depths.{deep}
-use Rattle.uvl_parser.proofs.Shallow.{file_shallow}
+use Rattle.uvl_faults.proofs.Walking.{walk, walk_reverse, Clear}
+use Rattle.uvl_faults.proofs.Depths.{deep}
+use Rattle.uvl_faults.proofs.Shallow.{file_shallow}
 use Rattle.uvl_parser.proofs.Answers.{root_depth}
-use Rattle.uvl_parser.proofs.Nodes.Limits.{too_many}
-use Rattle.uvl_parser.proofs.Nodes.Trees.{file_few}
-use Rattle.uvl_parser.proofs.Deep.{no_feature_too_deep}
-use Rattle.uvl_parser.proofs.Nodes.Clear.{no_node_too_many}
+use Rattle.uvl_faults.proofs.Nodes.Limits.{too_many}
+use Rattle.uvl_faults.proofs.Nodes.Trees.{file_few}
+use Rattle.uvl_faults.proofs.Deep.{no_feature_too_deep}
+use Rattle.uvl_faults.proofs.Nodes.Clear.{no_node_too_many}
 
 -- what is in front of a token where nothing is met
 clear_at : (met : List Token → Token → Bool) (before ts : List Token) (k : ℕ) (t : Token) → Clear met before ts → slice_get ts k ≡ Some t

@@ -8,9 +8,9 @@ use Rattle.uvl_lexer.specs.TokenList.{IsTokenList}
 use Rattle.uvl_ast.specs.declared.file.File.{File}
 use Rattle.uvl_parser.specs.declared.fault.ParseFault.{ParseFault}
 use Rattle.uvl_parser.specs.declared.fault.ParseFault.TheVariants.{At, OutOfMemory}
-use Rattle.uvl_parser.specs.File.{Spells}
-use Rattle.uvl_parser.specs.Dead.{Dead}
-use Rattle.uvl_parser.specs.Named.{NoneNamed, LowestNamed}
+use Rattle.uvl_grammar.specs.File.{Spells}
+use Rattle.uvl_grammar.specs.Dead.{Dead}
+use Rattle.uvl_faults.specs.Named.{NoneNamed, LowestNamed}
 
 -- the tokens spell the file, and no named fault is met at any of them
 pub record IsParsedAs (tokens : List Token) (file : File) : Type 0 where

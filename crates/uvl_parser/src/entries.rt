@@ -1,13 +1,14 @@
 //! The readers of what stands in braces.
 ghost use Rattle.std.specs.Prelude.{◌≡◌, Ok, Err, [], ◌∷◌, ◌++◌, OnOk};
-ghost use Rattle.uvl_parser.specs.Braces.{attributes_of, rules_of};
-ghost use Rattle.uvl_parser.specs.Reading.{Gives, many, behind_comma, separated, with_front};
-ghost use Rattle.uvl_parser.specs.Tests.{is_symbol};
-ghost use Rattle.uvl_parser.specs.Readers.Expressions.{expression};
-ghost use Rattle.uvl_parser.specs.Readers.Braces.{rule_list, entry, braces, kept, kept_behind, kept_closed};
+ghost use Rattle.uvl_grammar.specs.Braces.{attributes_of, rules_of};
+ghost use Rattle.uvl_grammar.specs.steps.Reading.{many, behind_comma, separated, with_front};
+ghost use Rattle.uvl_parser.specs.steps.Gives.{Gives};
+ghost use Rattle.uvl_grammar.specs.steps.Tests.{is_symbol};
+ghost use Rattle.uvl_grammar.specs.steps.Expressions.{expression};
+ghost use Rattle.uvl_grammar.specs.steps.Braces.{rule_list, entry, braces, kept, kept_behind, kept_closed};
 ghost use Rattle.uvl_lexer.specs.declared.token.Symbol.TheVariants.{Comma, RightBracket, RightBrace};
 
-use crate::braces::{Entry, Kept};
+use crate::braces::Kept;
 use crate::expression::expression;
 use crate::reading::Stop;
 use crate::tokens::{begins_with_symbol, begins_with_word, symbol, word};
@@ -15,10 +16,11 @@ use crate::values::attribute;
 use sqlite_items::Items;
 use std::alloc::{AllocError, Global};
 use uvl_ast::Expr;
+use uvl_grammar::Entry;
 use uvl_lexer::{Symbol, Token, Word};
 
 /// Reads braces, where there are any.
-#[tactic(auto, unfolding(crate::specs::Readers::Braces::braces, crate::specs::Reading::choose, crate::specs::Reading::bind, crate::specs::Reading::done))]
+#[tactic(auto, unfolding(uvl_grammar::specs::steps::Braces::braces, uvl_grammar::specs::steps::Reading::choose, uvl_grammar::specs::steps::Reading::bind, uvl_grammar::specs::steps::Reading::done))]
 pub(crate) fn braces(alloc: Global, tokens: &[Token]) -> Result<(Kept, &[Token]), Stop>
     ensures { Gives (λ r. ((r.0.attributes, r.0.rules), r.1.now)) result (kept (braces tokens.now)) }
 {
@@ -51,7 +53,7 @@ fn nothing(alloc: Global) -> Kept
 }
 
 /// Reads entries with commas between them.
-#[tactic(auto, unfolding(crate::specs::Reading::separated, crate::specs::Reading::choose, crate::specs::Reading::bind, crate::specs::Reading::done))]
+#[tactic(auto, unfolding(uvl_grammar::specs::steps::Reading::separated, uvl_grammar::specs::steps::Reading::choose, uvl_grammar::specs::steps::Reading::bind, uvl_grammar::specs::steps::Reading::done))]
 fn entries(alloc: Global, tokens: &[Token]) -> Result<(Kept, &[Token]), Stop>
     ensures { Gives (λ r. ((r.0.attributes, r.0.rules), r.1.now)) result (kept (separated (is_symbol RightBrace) entry tokens.now)) }
 {
@@ -100,7 +102,7 @@ fn keep(kept: &mut Kept, entry: Entry) -> Result<(), AllocError>
 }
 
 /// Reads an entry behind a comma.
-#[tactic(auto, unfolding(crate::specs::Reading::behind_comma, crate::specs::Reading::bind))]
+#[tactic(auto, unfolding(uvl_grammar::specs::steps::Reading::behind_comma, uvl_grammar::specs::steps::Reading::bind))]
 fn next_entry(alloc: Global, tokens: &[Token]) -> Result<(Entry, &[Token]), Stop>
     ensures { Gives (λ r. (r.0, r.1.now)) result (behind_comma entry tokens.now) }
 {
@@ -109,7 +111,7 @@ fn next_entry(alloc: Global, tokens: &[Token]) -> Result<(Entry, &[Token]), Stop
 }
 
 /// Reads an entry.
-#[tactic(auto, unfolding(crate::specs::Readers::Braces::entry, crate::specs::Reading::choose, crate::specs::Reading::bind, crate::specs::Reading::done))]
+#[tactic(auto, unfolding(uvl_grammar::specs::steps::Braces::entry, uvl_grammar::specs::steps::Reading::choose, uvl_grammar::specs::steps::Reading::bind, uvl_grammar::specs::steps::Reading::done))]
 fn entry(alloc: Global, tokens: &[Token]) -> Result<(Entry, &[Token]), Stop>
     ensures { Gives (λ r. (r.0, r.1.now)) result (entry tokens.now) }
 {
@@ -128,7 +130,7 @@ fn entry(alloc: Global, tokens: &[Token]) -> Result<(Entry, &[Token]), Stop>
 }
 
 /// Reads rules in brackets.
-#[tactic(auto, unfolding(crate::specs::Readers::Braces::rule_list, crate::specs::Reading::bind, crate::specs::Reading::done))]
+#[tactic(auto, unfolding(uvl_grammar::specs::steps::Braces::rule_list, uvl_grammar::specs::steps::Reading::bind, uvl_grammar::specs::steps::Reading::done))]
 fn rule_list(alloc: Global, tokens: &[Token]) -> Result<(Items<Expr>, &[Token]), Stop>
     ensures { Gives (λ r. (r.0, r.1.now)) result (rule_list tokens.now) }
 {
@@ -139,7 +141,7 @@ fn rule_list(alloc: Global, tokens: &[Token]) -> Result<(Items<Expr>, &[Token]),
 }
 
 /// Reads rules with commas between them.
-#[tactic(auto, unfolding(crate::specs::Reading::separated, crate::specs::Reading::choose, crate::specs::Reading::bind, crate::specs::Reading::done))]
+#[tactic(auto, unfolding(uvl_grammar::specs::steps::Reading::separated, uvl_grammar::specs::steps::Reading::choose, uvl_grammar::specs::steps::Reading::bind, uvl_grammar::specs::steps::Reading::done))]
 fn rules(alloc: Global, tokens: &[Token]) -> Result<(Items<Expr>, &[Token]), Stop>
     ensures { Gives (λ r. (r.0, r.1.now)) result (separated (is_symbol RightBracket) expression tokens.now) }
 {
@@ -174,7 +176,7 @@ fn more_rules<'a>(
 }
 
 /// Reads a rule behind a comma.
-#[tactic(auto, unfolding(crate::specs::Reading::behind_comma, crate::specs::Reading::bind))]
+#[tactic(auto, unfolding(uvl_grammar::specs::steps::Reading::behind_comma, uvl_grammar::specs::steps::Reading::bind))]
 fn next_rule(alloc: Global, tokens: &[Token]) -> Result<(Expr, &[Token]), Stop>
     ensures { Gives (λ r. (r.0, r.1.now)) result (behind_comma expression tokens.now) }
 {

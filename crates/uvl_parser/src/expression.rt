@@ -10,20 +10,21 @@
 //!     mul  = prim ("*" prim)*
 //!     prim = "(" expr ")" | "-"? number | "sum" "(" name ")" | ref
 //!
-//! One loop reads a chain of operators, of whatever levels they are. A function calls itself again only
-//! behind a `(` or a `!`, or behind an operator at a level that binds more. So recursion goes as deep as
-//! `(` and `!` nest, times the number of levels, whatever the length of a chain of operators.
+//! One loop reads a chain of operators, of whatever precedences they are. A function calls itself again only
+//! behind a `(` or a `!`, or behind an operator at a precedence that binds more. So recursion goes as deep as
+//! `(` and `!` nest, times the number of precedences, whatever the length of a chain of operators.
 ghost use Rattle.std.specs.Prelude.{◌≡◌, ◌<◌, Ok, Err, IfOk, length};
-ghost use Rattle.uvl_parser.specs.Reading.{Gives};
-ghost use Rattle.uvl_parser.specs.Readers.Expressions as spec;
+ghost use Rattle.uvl_parser.specs.steps.Gives.{Gives};
+ghost use Rattle.uvl_grammar.specs.steps.Expressions as spec;
+ghost use Rattle.uvl_parser.specs.steps.Precedence.{of_precedence, part_of};
 
-mod level;
+mod precedence;
 mod opening;
 mod parts;
 
 use crate::reading::Stop;
 use crate::tokens::{begins_with_symbol, symbol};
-use level::{Level, split_comparison, split_operator};
+use precedence::{Precedence, split_comparison, split_operator};
 use opening::{Opening, opening_of};
 use parts::{binary, named, negative, total};
 use sqlite_items::Boxed;
@@ -35,53 +36,53 @@ use uvl_lexer::{Symbol, Token};
 mod tests;
 
 /// Reads an expression.
-#[tactic(auto, unfolding(crate::specs::Readers::Expressions::expression, crate::specs::Readers::Expressions::of_level, crate::specs::Reading::closed))]
+#[tactic(auto, unfolding(uvl_grammar::specs::steps::Expressions::expression, crate::specs::steps::Precedence::of_precedence, uvl_grammar::specs::steps::Reading::closed))]
 pub(crate) fn expression(alloc: Global, tokens: &[Token]) -> Result<(Expr, &[Token]), Stop>
     ensures reads { Gives (λ r. (r.0, r.1.now)) result (spec.expression tokens.now) }
     ensures shorter { IfOk result (λ r. length r.1.now < length tokens.now) }
 {
-    let (whole, rest) = grouped(alloc, Level::Iff, tokens)?;
+    let (whole, rest) = grouped(alloc, Precedence::Iff, tokens)?;
     Ok((whole.into_inner(), rest))
 }
 
-/// Reads operands of a level with its operators between them, and of those levels that bind more,
+/// Reads operands of a precedence with its operators between them, and of those precedences that bind more,
 /// by one loop. They group to the left, and each operator stands where its symbol stands.
 ///
-/// `most` is the level of the last operator read here. None that binds more is looked for behind it:
+/// `most` is the precedence of the last operator read here. None that binds more is looked for behind it:
 /// those were read with its right operand.
 #[cycle(expression)]
-fn grouped(alloc: Global, least: Level, tokens: &[Token]) -> Result<(Boxed<Expr>, &[Token]), Stop>
-    ensures reads { Gives (λ r. (r.0, r.1.now)) result (spec.of_level least tokens.now) }
+fn grouped(alloc: Global, least: Precedence, tokens: &[Token]) -> Result<(Boxed<Expr>, &[Token]), Stop>
+    ensures reads { Gives (λ r. (r.0, r.1.now)) result (of_precedence least tokens.now) }
     ensures shorter { IfOk result (λ r. length r.1.now < length tokens.now) }
 {
     let mut most = least.tightest();
     let (mut left, mut rest) = part(alloc, most, tokens)?;
     for _turn in 0..rest.len() {
-        let Some((operator, level, place, behind)) = split_operator(least, most, rest) else {
+        let Some((operator, precedence, place, behind)) = split_operator(least, most, rest) else {
             return Ok((left, rest));
         };
-        let (right, after) = part(alloc, level, behind)?;
+        let (right, after) = part(alloc, precedence, behind)?;
         left = binary(alloc, operator, left, right, place)?;
-        most = level;
+        most = precedence;
         rest = after;
     }
     Ok((left, rest))
 }
 
-/// Reads what stands between the operators of a level.
+/// Reads what stands between the operators of a precedence.
 #[cycle(expression)]
-#[tactic(auto, unfolding(crate::specs::Readers::Expressions::part_of, crate::specs::Readers::Expressions::of_level, crate::specs::Readers::Expressions::operand, crate::specs::Readers::Expressions::primary, crate::specs::Reading::closed))]
-fn part(alloc: Global, level: Level, tokens: &[Token]) -> Result<(Boxed<Expr>, &[Token]), Stop>
-    ensures reads { Gives (λ r. (r.0, r.1.now)) result (spec.part_of level tokens.now) }
+#[tactic(auto, unfolding(crate::specs::steps::Precedence::part_of, crate::specs::steps::Precedence::of_precedence, uvl_grammar::specs::steps::Expressions::operand, uvl_grammar::specs::steps::Expressions::primary, uvl_grammar::specs::steps::Reading::closed))]
+fn part(alloc: Global, precedence: Precedence, tokens: &[Token]) -> Result<(Boxed<Expr>, &[Token]), Stop>
+    ensures reads { Gives (λ r. (r.0, r.1.now)) result (part_of precedence tokens.now) }
     ensures shorter { IfOk result (λ r. length r.1.now < length tokens.now) }
 {
-    match level {
-        Level::Iff => grouped(alloc, Level::Implies, tokens),
-        Level::Implies => grouped(alloc, Level::Or, tokens),
-        Level::Or => grouped(alloc, Level::And, tokens),
-        Level::And => operand(alloc, tokens),
-        Level::Sum => grouped(alloc, Level::Product, tokens),
-        Level::Product => primary(alloc, tokens),
+    match precedence {
+        Precedence::Iff => grouped(alloc, Precedence::Implies, tokens),
+        Precedence::Implies => grouped(alloc, Precedence::Or, tokens),
+        Precedence::Or => grouped(alloc, Precedence::And, tokens),
+        Precedence::And => operand(alloc, tokens),
+        Precedence::Sum => grouped(alloc, Precedence::Product, tokens),
+        Precedence::Product => primary(alloc, tokens),
     }
 }
 
@@ -105,11 +106,11 @@ fn comparison(alloc: Global, tokens: &[Token]) -> Result<(Boxed<Expr>, &[Token])
     ensures reads { Gives (λ r. (r.0, r.1.now)) result (spec.comparison tokens.now) }
     ensures shorter { IfOk result (λ r. length r.1.now < length tokens.now) }
 {
-    let (left, rest) = grouped(alloc, Level::Sum, tokens)?;
+    let (left, rest) = grouped(alloc, Precedence::Sum, tokens)?;
     let Some((operator, place, behind)) = split_comparison(rest) else {
         return Ok((left, rest));
     };
-    let (right, rest) = grouped(alloc, Level::Sum, behind)?;
+    let (right, rest) = grouped(alloc, Precedence::Sum, behind)?;
     Ok((binary(alloc, operator, left, right, place)?, rest))
 }
 
@@ -137,12 +138,12 @@ fn primary(alloc: Global, tokens: &[Token]) -> Result<(Boxed<Expr>, &[Token]), S
 
 /// Reads what is behind a left parenthesis.
 #[cycle(expression)]
-#[tactic(auto, unfolding(crate::specs::Readers::Expressions::parenthesized, crate::specs::Readers::Expressions::expression, crate::specs::Readers::Expressions::of_level, crate::specs::Reading::closed, crate::specs::Reading::bind, crate::specs::Reading::done))]
+#[tactic(auto, unfolding(uvl_grammar::specs::steps::Expressions::parenthesized, uvl_grammar::specs::steps::Expressions::expression, crate::specs::steps::Precedence::of_precedence, uvl_grammar::specs::steps::Reading::closed, uvl_grammar::specs::steps::Reading::bind, uvl_grammar::specs::steps::Reading::done))]
 fn parenthesized(alloc: Global, tokens: &[Token]) -> Result<(Boxed<Expr>, &[Token]), Stop>
     ensures reads { Gives (λ r. (r.0, r.1.now)) result (spec.parenthesized spec.expression tokens.now) }
     ensures shorter { IfOk result (λ r. length r.1.now < length tokens.now) }
 {
-    let (inner, rest) = grouped(alloc, Level::Iff, tokens)?;
+    let (inner, rest) = grouped(alloc, Precedence::Iff, tokens)?;
     let (_, rest) = symbol(rest, Symbol::RightParen)?;
     Ok((inner, rest))
 }

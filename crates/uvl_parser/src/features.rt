@@ -1,9 +1,10 @@
 //! The tree of features: `feature = "Boolean"? ref braces? Newline (Indent group+ Dedent)?`,
 //! `group = kind Newline Indent feature+ Dedent`.
 ghost use Rattle.std.specs.Prelude.{◌≡◌, Ok, Err, ◌++◌};
-ghost use Rattle.uvl_parser.specs.Reading.{Gives, many, one_or_more, body, with_front, closed};
-ghost use Rattle.uvl_parser.specs.Tests.{stays};
-ghost use Rattle.uvl_parser.specs.Readers.Features.{boolean, group_with, feature_with, feature_at, tree};
+ghost use Rattle.uvl_grammar.specs.steps.Reading.{many, one_or_more, body, with_front, closed};
+ghost use Rattle.uvl_parser.specs.steps.Gives.{Gives};
+ghost use Rattle.uvl_grammar.specs.steps.Tests.{stays};
+ghost use Rattle.uvl_grammar.specs.steps.Features.{boolean, group_with, feature_with, feature_at, tree};
 
 use crate::entries::braces;
 use crate::groups::group_front;
@@ -23,7 +24,7 @@ pub(crate) fn tree(alloc: Global, tokens: &[Token]) -> Result<(Feature, &[Token]
 }
 
 /// What is behind the word Boolean, where it stands in front.
-#[tactic(auto, unfolding(crate::specs::Readers::Features::boolean, crate::specs::Reading::choose, crate::specs::Reading::bind, crate::specs::Reading::done))]
+#[tactic(auto, unfolding(uvl_grammar::specs::steps::Features::boolean, uvl_grammar::specs::steps::Reading::choose, uvl_grammar::specs::steps::Reading::bind, uvl_grammar::specs::steps::Reading::done))]
 fn behind_boolean(tokens: &[Token]) -> Result<&[Token], Stop>
     ensures { Gives (λ rest. (tt, rest.now)) result (boolean tokens.now) }
 {
@@ -37,7 +38,7 @@ fn behind_boolean(tokens: &[Token]) -> Result<&[Token], Stop>
 
 /// Reads a feature below which there are fewer than `depth` levels of features, itself counted.
 #[cycle(features)]
-#[tactic(auto, unfolding(crate::specs::Readers::Features::feature_at))]
+#[tactic(auto, unfolding(uvl_grammar::specs::steps::Features::feature_at))]
 fn feature_at(alloc: Global, tokens: &[Token], depth: usize) -> Result<(Feature, &[Token]), Stop>
     ensures { Gives (λ r. (r.0, r.1.now)) result (feature_at depth tokens.now) }
 {
@@ -49,7 +50,7 @@ fn feature_at(alloc: Global, tokens: &[Token], depth: usize) -> Result<(Feature,
 
 /// Reads a feature, below which there are at most `depth` levels of features.
 #[cycle(features)]
-#[tactic(auto, unfolding(crate::specs::Readers::Features::feature_with, crate::specs::Reading::bind, crate::specs::Reading::done))]
+#[tactic(auto, unfolding(uvl_grammar::specs::steps::Features::feature_with, uvl_grammar::specs::steps::Reading::bind, uvl_grammar::specs::steps::Reading::done))]
 fn feature(alloc: Global, tokens: &[Token], depth: usize) -> Result<(Feature, &[Token]), Stop>
     ensures { Gives (λ r. (r.0, r.1.now)) result (feature_with (feature_at depth) tokens.now) }
 {
@@ -71,7 +72,7 @@ fn feature(alloc: Global, tokens: &[Token], depth: usize) -> Result<(Feature, &[
 
 /// Reads groups that are indented by a level, or nothing.
 #[cycle(features)]
-#[tactic(auto, unfolding(crate::specs::Reading::body, crate::specs::Reading::choose, crate::specs::Reading::bind, crate::specs::Reading::done))]
+#[tactic(auto, unfolding(uvl_grammar::specs::steps::Reading::body, uvl_grammar::specs::steps::Reading::choose, uvl_grammar::specs::steps::Reading::bind, uvl_grammar::specs::steps::Reading::done))]
 fn groups(alloc: Global, tokens: &[Token], depth: usize) -> Result<(Items<Group>, &[Token]), Stop>
     ensures { Gives (λ r. (r.0, r.1.now)) result (body (group_with (feature_at depth)) tokens.now) }
 {
@@ -87,7 +88,7 @@ fn groups(alloc: Global, tokens: &[Token], depth: usize) -> Result<(Items<Group>
 
 /// Reads one or more groups.
 #[cycle(features)]
-#[tactic(auto, unfolding(crate::specs::Reading::one_or_more, crate::specs::Reading::bind, crate::specs::Reading::done))]
+#[tactic(auto, unfolding(uvl_grammar::specs::steps::Reading::one_or_more, uvl_grammar::specs::steps::Reading::bind, uvl_grammar::specs::steps::Reading::done))]
 fn some_groups(
     alloc: Global,
     tokens: &[Token],
@@ -126,7 +127,7 @@ fn more_groups<'a>(
 
 /// Reads a group, below whose members there are fewer than `depth` levels, themselves counted.
 #[cycle(features)]
-#[tactic(auto, unfolding(crate::specs::Readers::Features::group_with, crate::specs::Reading::bind, crate::specs::Reading::done))]
+#[tactic(auto, unfolding(uvl_grammar::specs::steps::Features::group_with, uvl_grammar::specs::steps::Reading::bind, uvl_grammar::specs::steps::Reading::done))]
 fn group(alloc: Global, tokens: &[Token], depth: usize) -> Result<(Group, &[Token]), Stop>
     ensures { Gives (λ r. (r.0, r.1.now)) result (group_with (feature_at depth) tokens.now) }
 {
@@ -147,7 +148,7 @@ fn group(alloc: Global, tokens: &[Token], depth: usize) -> Result<(Group, &[Toke
 
 /// Reads one or more features.
 #[cycle(features)]
-#[tactic(auto, unfolding(crate::specs::Reading::one_or_more, crate::specs::Reading::bind, crate::specs::Reading::done))]
+#[tactic(auto, unfolding(uvl_grammar::specs::steps::Reading::one_or_more, uvl_grammar::specs::steps::Reading::bind, uvl_grammar::specs::steps::Reading::done))]
 fn members(
     alloc: Global,
     tokens: &[Token],

@@ -1,7 +1,7 @@
 //! Whole files: `file = namespace? include? imports? features? constraints? Finish`.
 ghost use Rattle.std.specs.Prelude.{◌≡◌, Ok, Err};
-ghost use Rattle.uvl_parser.specs.Reading.{Gives};
-ghost use Rattle.uvl_parser.specs.Readers.File.{file};
+ghost use Rattle.uvl_parser.specs.steps.Gives.{Gives};
+ghost use Rattle.uvl_grammar.specs.steps.File.{file};
 
 use crate::lines::section;
 use crate::reading::Stop;
@@ -13,7 +13,7 @@ use uvl_base::Text;
 use uvl_lexer::{Token, Word};
 
 /// Reads a file.
-#[tactic(auto, unfolding(crate::specs::Readers::File::file, crate::specs::Reading::bind, crate::specs::Reading::done))]
+#[tactic(auto, unfolding(uvl_grammar::specs::steps::File::file, uvl_grammar::specs::steps::Reading::bind, uvl_grammar::specs::steps::Reading::done))]
 pub(crate) fn file(alloc: Global, tokens: &[Token]) -> Result<(File, &[Token]), Stop>
     ensures { Gives (λ r. (r.0, r.1.now)) result (file tokens.now) }
 {

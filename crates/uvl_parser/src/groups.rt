@@ -1,9 +1,10 @@
 //! The fronts of groups:
 //! `kind = "mandatory" | "optional" | "alternative" | "or" | "[" whole "]" | "[" whole ".." (whole | "*") "]"`.
 ghost use Rattle.std.specs.Prelude.{◌≡◌, true, Ok, Err, Some, None};
-ghost use Rattle.uvl_parser.specs.Tokens.{whole_of, whole_value};
-ghost use Rattle.uvl_parser.specs.Reading.{Gives, accept};
-ghost use Rattle.uvl_parser.specs.Readers.Groups.{kind_of, upper, range_from, range, group_front};
+ghost use Rattle.uvl_grammar.specs.Tokens.{whole_of, whole_value};
+ghost use Rattle.uvl_grammar.specs.steps.Reading.{accept};
+ghost use Rattle.uvl_parser.specs.steps.Gives.{Gives};
+ghost use Rattle.uvl_grammar.specs.steps.Groups.{kind_of, upper, range_from, range, group_front};
 
 use crate::reading::Stop;
 use crate::tokens::{begins_with_symbol, symbol};
@@ -15,7 +16,7 @@ use uvl_lexer::{Symbol, Token, TokenKind, Word};
 pub(crate) type GroupFront = (GroupKind, Place);
 
 /// Reads the front of a group.
-#[tactic(auto, unfolding(crate::specs::Readers::Groups::group_front, crate::specs::Reading::choose))]
+#[tactic(auto, unfolding(uvl_grammar::specs::steps::Groups::group_front, uvl_grammar::specs::steps::Reading::choose))]
 pub(crate) fn group_front(tokens: &[Token]) -> Result<(GroupFront, &[Token]), Stop>
     ensures { Gives (λ r. (r.0, r.1.now)) result (group_front tokens.now) }
 {
@@ -40,7 +41,7 @@ fn kind_of(kind: &TokenKind) -> Option<GroupKind>
 }
 
 /// Reads a word that says a kind of group.
-#[tactic(auto, unfolding(crate::specs::Reading::accept))]
+#[tactic(auto, unfolding(uvl_grammar::specs::steps::Reading::accept))]
 fn kind_word(tokens: &[Token]) -> Result<(GroupFront, &[Token]), Stop>
     ensures { Gives (λ r. (r.0, r.1.now)) result (accept kind_of tokens.now) }
 {
@@ -54,7 +55,7 @@ fn kind_word(tokens: &[Token]) -> Result<(GroupFront, &[Token]), Stop>
 }
 
 /// Reads a range in brackets.
-#[tactic(auto, unfolding(crate::specs::Readers::Groups::range, crate::specs::Reading::bind, crate::specs::Reading::done))]
+#[tactic(auto, unfolding(uvl_grammar::specs::steps::Groups::range, uvl_grammar::specs::steps::Reading::bind, uvl_grammar::specs::steps::Reading::done))]
 fn range(tokens: &[Token]) -> Result<(GroupFront, &[Token]), Stop>
     ensures { Gives (λ r. (r.0, r.1.now)) result (range tokens.now) }
 {
@@ -66,7 +67,7 @@ fn range(tokens: &[Token]) -> Result<(GroupFront, &[Token]), Stop>
 }
 
 /// Reads what is behind the lower bound of a range: dots and an upper bound, or nothing.
-#[tactic(auto, unfolding(crate::specs::Readers::Groups::range_from, crate::specs::Reading::choose, crate::specs::Reading::bind, crate::specs::Reading::done))]
+#[tactic(auto, unfolding(uvl_grammar::specs::steps::Groups::range_from, uvl_grammar::specs::steps::Reading::choose, uvl_grammar::specs::steps::Reading::bind, uvl_grammar::specs::steps::Reading::done))]
 fn range_from(lo: u64, tokens: &[Token]) -> Result<(GroupKind, &[Token]), Stop>
     ensures { Gives (λ r. (r.0, r.1.now)) result (range_from lo tokens.now) }
 {
@@ -79,7 +80,7 @@ fn range_from(lo: u64, tokens: &[Token]) -> Result<(GroupKind, &[Token]), Stop>
 }
 
 /// Reads an upper bound: a number, or a star where there is none.
-#[tactic(auto, unfolding(crate::specs::Readers::Groups::upper, crate::specs::Reading::choose, crate::specs::Reading::bind, crate::specs::Reading::done))]
+#[tactic(auto, unfolding(uvl_grammar::specs::steps::Groups::upper, uvl_grammar::specs::steps::Reading::choose, uvl_grammar::specs::steps::Reading::bind, uvl_grammar::specs::steps::Reading::done))]
 fn upper(lo: u64, tokens: &[Token]) -> Result<(GroupKind, &[Token]), Stop>
     ensures { Gives (λ r. (r.0, r.1.now)) result (upper lo tokens.now) }
 {
@@ -94,7 +95,7 @@ fn upper(lo: u64, tokens: &[Token]) -> Result<(GroupKind, &[Token]), Stop>
 }
 
 /// Reads a number without a point.
-#[tactic(auto, unfolding(crate::specs::Reading::accept))]
+#[tactic(auto, unfolding(uvl_grammar::specs::steps::Reading::accept))]
 fn whole(tokens: &[Token]) -> Result<(u64, Place, &[Token]), Stop>
     ensures { Gives (λ r. ((r.0, r.1), r.2.now)) result (accept whole_of tokens.now) }
 {

@@ -2,11 +2,12 @@
 ghost use Rattle.std.specs.Prelude.{◌≡◌, ◌++◌, Ok, Err, IfOk, OnOk, chars, string_bytes};
 ghost use Rattle.std.specs.Option.{option_map};
 ghost use Rattle.uvl_lexer.specs.declared.token.TokenKind.TheVariants as token;
-ghost use Rattle.uvl_parser.specs.Tests.{begins};
-ghost use Rattle.uvl_parser.specs.Sections.{level_part, written_name};
-ghost use Rattle.uvl_parser.specs.Reading.{Gives, many};
-ghost use Rattle.uvl_parser.specs.Readers.Sections.{level, level_token, is_level_part};
-ghost use Rattle.uvl_parser.specs.Readers.Levels.{text_onto, texts_onto, line_text, level_text, Pushes};
+ghost use Rattle.uvl_grammar.specs.steps.Tests.{begins};
+ghost use Rattle.uvl_grammar.specs.Sections.{level_part, written_name};
+ghost use Rattle.uvl_grammar.specs.steps.Reading.{many};
+ghost use Rattle.uvl_parser.specs.steps.Gives.{Gives};
+ghost use Rattle.uvl_grammar.specs.steps.Sections.{level, level_token, is_level_part};
+ghost use Rattle.uvl_parser.specs.steps.LanguageLevels.{text_onto, texts_onto, line_text, level_text, Pushes};
 
 use crate::lines::SectionLine;
 use crate::reading::Stop;
@@ -135,7 +136,7 @@ fn more_tokens<'a>(into: &mut String, tokens: &'a [Token]) -> Result<&'a [Token]
 }
 
 /// Reads the text of a level.
-#[tactic(auto, unfolding(crate::specs::Readers::Levels::line_text))]
+#[tactic(auto, unfolding(crate::specs::steps::LanguageLevels::line_text))]
 fn line_text(alloc: Global, tokens: &[Token]) -> Result<(String, &[Token]), Stop>
     ensures { Gives (λ r. (chars (string_bytes r.0), r.1.now)) result (line_text tokens.now) }
 {
@@ -146,7 +147,7 @@ fn line_text(alloc: Global, tokens: &[Token]) -> Result<(String, &[Token]), Stop
 }
 
 /// Reads a line of `include` by its text.
-#[tactic(auto, unfolding(crate::specs::Readers::Levels::level_text, crate::specs::Reading::bind, crate::specs::Reading::done))]
+#[tactic(auto, unfolding(crate::specs::steps::LanguageLevels::level_text, uvl_grammar::specs::steps::Reading::bind, uvl_grammar::specs::steps::Reading::done))]
 fn level_text(alloc: Global, tokens: &[Token]) -> Result<(Text, &[Token]), Stop>
     ensures { Gives (λ r. (r.0, r.1.now)) result (level_text tokens.now) }
 {

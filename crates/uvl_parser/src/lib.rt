@@ -1,4 +1,4 @@
-//! Tokens to syntax: the grammar of UVL files, and a parser that answers exactly what it spells.
+//! Tokens to syntax: a parser that answers exactly the file that tokens spell, or their first fault.
 #![tactic(auto)]
 
 mod braces;
@@ -11,7 +11,6 @@ mod groups;
 mod include_lines;
 mod law;
 mod lines;
-mod named;
 mod number;
 mod parser;
 mod reading;
@@ -21,11 +20,10 @@ mod tokens;
 mod values;
 
 pub use fault::ParseFault;
-pub use law::{
-    every_token_list_is_parsed_once, every_token_list_spells_one_file,
-    files_are_parsed_exactly_within_the_limits, nodes_are_counted_by_tokens,
-};
+pub use law::{every_token_list_is_parsed_once, files_are_parsed_exactly_within_the_limits};
 pub use parser::parse;
+pub use uvl_faults::nodes_are_counted_by_tokens;
+pub use uvl_grammar::every_token_list_spells_one_file;
 
 #[cfg(test)]
 mod tests;

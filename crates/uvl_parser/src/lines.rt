@@ -1,9 +1,10 @@
 //! The sections that are made of lines, `include`, `imports` and `constraints`: a word on a line of its
 //! own, and the section's lines, indented by a level.
 ghost use Rattle.std.specs.Prelude.{◌≡◌, Ok, Err, ◌++◌};
-ghost use Rattle.uvl_parser.specs.Reading.{Gives, Reader, many, one_or_more, body, with_front};
-ghost use Rattle.uvl_parser.specs.Tests.{stays};
-ghost use Rattle.uvl_parser.specs.Readers.Sections.{section};
+ghost use Rattle.uvl_grammar.specs.steps.Reading.{Reader, many, one_or_more, body, with_front};
+ghost use Rattle.uvl_parser.specs.steps.Gives.{Gives};
+ghost use Rattle.uvl_grammar.specs.steps.Tests.{stays};
+ghost use Rattle.uvl_grammar.specs.steps.Sections.{section};
 
 use crate::reading::Stop;
 use crate::tokens::{begins_with_indent, begins_with_word, dedent, indent, newline, stays, word};
@@ -22,7 +23,7 @@ pub(crate) trait SectionLine: Drop {
 }
 
 /// Reads `section = name Newline (Indent line+ Dedent)?`, where it stands.
-#[tactic(auto, unfolding(crate::specs::Readers::Sections::section, crate::specs::Reading::choose, crate::specs::Reading::bind, crate::specs::Reading::done))]
+#[tactic(auto, unfolding(uvl_grammar::specs::steps::Sections::section, uvl_grammar::specs::steps::Reading::choose, uvl_grammar::specs::steps::Reading::bind, uvl_grammar::specs::steps::Reading::done))]
 pub(crate) fn section<L: SectionLine>(
     alloc: Global,
     name: Word,
@@ -40,7 +41,7 @@ pub(crate) fn section<L: SectionLine>(
 }
 
 /// Reads lines that are indented by a level, or nothing.
-#[tactic(auto, unfolding(crate::specs::Reading::body, crate::specs::Reading::choose, crate::specs::Reading::bind, crate::specs::Reading::done))]
+#[tactic(auto, unfolding(uvl_grammar::specs::steps::Reading::body, uvl_grammar::specs::steps::Reading::choose, uvl_grammar::specs::steps::Reading::bind, uvl_grammar::specs::steps::Reading::done))]
 fn lines<L: SectionLine>(alloc: Global, tokens: &[Token]) -> Result<(Items<L>, &[Token]), Stop>
     ensures { Gives (λ r. (r.0, r.1.now)) result (body L.reader tokens.now) }
 {
@@ -55,7 +56,7 @@ fn lines<L: SectionLine>(alloc: Global, tokens: &[Token]) -> Result<(Items<L>, &
 }
 
 /// Reads one or more lines.
-#[tactic(auto, unfolding(crate::specs::Reading::one_or_more, crate::specs::Reading::bind, crate::specs::Reading::done))]
+#[tactic(auto, unfolding(uvl_grammar::specs::steps::Reading::one_or_more, uvl_grammar::specs::steps::Reading::bind, uvl_grammar::specs::steps::Reading::done))]
 fn some_lines<L: SectionLine>(alloc: Global, tokens: &[Token]) -> Result<(Items<L>, &[Token]), Stop>
     ensures { Gives (λ r. (r.0, r.1.now)) result (one_or_more stays L.reader tokens.now) }
 {

@@ -1,5 +1,6 @@
 //! The parser.
-ghost use Rattle.std.specs.Prelude.{◌≡◌, ◌≤◌, ℕ, Ok, Err, IfOk, IfErr, IfSome, IsErr};
+ghost use Rattle.std.specs.Prelude.{◌≡◌, ◌≤◌, ◌-◌, ℕ, Ok, Err, IfOk, IfErr, IfSome, IsErr};
+ghost use Rattle.uvl_base.specs.Limits.{most_depth, most_nesting, most_rule_nodes, most_right_operands};
 ghost use Rattle.uvl_base.specs.declared.fault.FaultKind.{FaultKind};
 ghost use Rattle.uvl_base.specs.declared.place.Place.{Place};
 ghost use Rattle.uvl_lexer.specs.TokenList.{IsTokenList};
@@ -10,17 +11,17 @@ ghost use Rattle.uvl_ast.specs.Nesting.{EachValueNests};
 ghost use Rattle.uvl_ast.specs.Nodes.{nodes_of};
 ghost use Rattle.uvl_ast.specs.Operands.{right_operands};
 ghost use Rattle.uvl_ast.specs.Rules.{EachRule};
-ghost use Rattle.uvl_parser.specs.Named.{NoneNamed, IsFirstNamed};
+ghost use Rattle.uvl_faults.specs.Named.{NoneNamed, IsFirstNamed};
 ghost use Rattle.uvl_parser.specs.Parsing.{IsParsedAs, IsFaultAt, IsRefusedAt, OnFault};
 ghost use Rattle.std.specs.Option.{unwrap_or};
 
 use crate::fault::ParseFault;
 use crate::file::file;
-use crate::named::first_named;
 use crate::reading::Stop;
 use std::alloc::Global;
 use uvl_ast::File;
 use uvl_base::FaultKind;
+use uvl_faults::first_named;
 use uvl_lexer::Token;
 use uvl_profile::Candidate;
 
@@ -38,11 +39,11 @@ pub fn parse(alloc: Global, tokens: &[Token]) -> Result<File, ParseFault>
     ensures fault { IfErr result (λ fault. OnFault fault (λ place kind. IsRefusedAt tokens.now place kind)) }
     ensures never_refused { (file : File) → IsParsedAs tokens.now file → IfErr result (λ fault. fault ≡ ParseFault.OutOfMemory) }
     ensures never_read { (place : Place) (kind : FaultKind) → IsRefusedAt tokens.now place kind → IsErr result }
-    ensures shallow { IfOk result (λ file. IfSome file.root (λ root. depth_of root ≤ 64)) }
+    ensures shallow { IfOk result (λ file. IfSome file.root (λ root. depth_of root ≤ most_depth)) }
     ensures members { IfOk result (λ file. IfSome file.root EachGroupHasMembers) }
-    ensures nested { IfOk result (λ file. IfSome file.root (EachValueNests 127)) }
-    ensures nodes { IfOk result (EachRule (λ rule. nodes_of rule ≤ 8192)) }
-    ensures grouped { IfOk result (EachRule (λ rule. right_operands rule ≤ 516)) }
+    ensures nested { IfOk result (λ file. IfSome file.root (EachValueNests (most_nesting - 1))) }
+    ensures nodes { IfOk result (EachRule (λ rule. nodes_of rule ≤ most_rule_nodes)) }
+    ensures grouped { IfOk result (EachRule (λ rule. right_operands rule ≤ most_right_operands)) }
 {
     parse_tokens(alloc, tokens)
 }

@@ -1,8 +1,9 @@
 //! References: `name ("." name)*`.
 ghost use Rattle.std.specs.Prelude.{◌≡◌, Ok, Err};
-ghost use Rattle.uvl_parser.specs.Reading.{Gives, many, with_front};
-ghost use Rattle.uvl_parser.specs.Tests.{is_symbol};
-ghost use Rattle.uvl_parser.specs.Readers.Refs.{dot_name, reference};
+ghost use Rattle.uvl_grammar.specs.steps.Reading.{many, with_front};
+ghost use Rattle.uvl_parser.specs.steps.Gives.{Gives};
+ghost use Rattle.uvl_grammar.specs.steps.Tests.{is_symbol};
+ghost use Rattle.uvl_grammar.specs.steps.Refs.{dot_name, reference};
 ghost use Rattle.uvl_lexer.specs.declared.token.Symbol.TheVariants.{Dot};
 
 use crate::reading::Stop;
@@ -13,7 +14,7 @@ use uvl_base::Name;
 use uvl_lexer::{Symbol, Token};
 
 /// Reads a reference.
-#[tactic(auto, unfolding(crate::specs::Readers::Refs::reference, crate::specs::Reading::bind, crate::specs::Reading::done))]
+#[tactic(auto, unfolding(uvl_grammar::specs::steps::Refs::reference, uvl_grammar::specs::steps::Reading::bind, uvl_grammar::specs::steps::Reading::done))]
 pub(crate) fn reference(alloc: Global, tokens: &[Token]) -> Result<(Ref, &[Token]), Stop>
     ensures { Gives (λ r. (r.0, r.1.now)) result (reference tokens.now) }
 {
@@ -41,7 +42,7 @@ fn dot_names<'a>(parts: &mut Names, tokens: &'a [Token]) -> Result<&'a [Token], 
 }
 
 /// Reads a dot and the name behind it.
-#[tactic(auto, unfolding(crate::specs::Readers::Refs::dot_name, crate::specs::Reading::bind, crate::specs::Reading::done))]
+#[tactic(auto, unfolding(uvl_grammar::specs::steps::Refs::dot_name, uvl_grammar::specs::steps::Reading::bind, uvl_grammar::specs::steps::Reading::done))]
 fn dot_name(tokens: &[Token]) -> Result<(&Name, &[Token]), Stop>
     ensures { Gives (λ r. (r.0.now, r.1.now)) result (dot_name tokens.now) }
 {

@@ -1,7 +1,7 @@
 //! The sections of a file: the namespace, the features, and a line of `imports` and of `constraints`.
 ghost use Rattle.std.specs.Prelude.{◌≡◌, Ok, Err, Some, None};
-ghost use Rattle.uvl_parser.specs.Reading.{Gives};
-ghost use Rattle.uvl_parser.specs.Readers.Sections.{namespace, alias, import_line, features, rule};
+ghost use Rattle.uvl_parser.specs.steps.Gives.{Gives};
+ghost use Rattle.uvl_grammar.specs.steps.Sections.{namespace, alias, import_line, features, rule};
 
 use crate::expression::expression;
 use crate::features::tree;
@@ -14,7 +14,7 @@ use uvl_ast::{Expr, Feature, Import, Ref};
 use uvl_lexer::{Token, Word};
 
 /// Reads `namespace = "namespace" ref Newline`, where it stands.
-#[tactic(auto, unfolding(crate::specs::Readers::Sections::namespace, crate::specs::Reading::choose, crate::specs::Reading::bind, crate::specs::Reading::done))]
+#[tactic(auto, unfolding(uvl_grammar::specs::steps::Sections::namespace, uvl_grammar::specs::steps::Reading::choose, uvl_grammar::specs::steps::Reading::bind, uvl_grammar::specs::steps::Reading::done))]
 pub(crate) fn namespace(alloc: Global, tokens: &[Token]) -> Result<(Option<Ref>, &[Token]), Stop>
     ensures { Gives (λ r. (r.0, r.1.now)) result (namespace tokens.now) }
 {
@@ -29,7 +29,7 @@ pub(crate) fn namespace(alloc: Global, tokens: &[Token]) -> Result<(Option<Ref>,
 }
 
 /// Reads `features = "features" Newline Indent feature Dedent`, where it stands.
-#[tactic(auto, unfolding(crate::specs::Readers::Sections::features, crate::specs::Reading::choose, crate::specs::Reading::bind, crate::specs::Reading::done))]
+#[tactic(auto, unfolding(uvl_grammar::specs::steps::Sections::features, uvl_grammar::specs::steps::Reading::choose, uvl_grammar::specs::steps::Reading::bind, uvl_grammar::specs::steps::Reading::done))]
 pub(crate) fn features(alloc: Global, tokens: &[Token]) -> Result<(Option<Feature>, &[Token]), Stop>
     ensures { Gives (λ r. (r.0, r.1.now)) result (features tokens.now) }
 {
@@ -49,7 +49,7 @@ pub(crate) fn features(alloc: Global, tokens: &[Token]) -> Result<(Option<Featur
 impl SectionLine for Import {
     ghost reader = { import_line };
 
-    #[tactic(auto, unfolding(crate::specs::Readers::Sections::import_line, crate::specs::Reading::bind, crate::specs::Reading::done))]
+    #[tactic(auto, unfolding(uvl_grammar::specs::steps::Sections::import_line, uvl_grammar::specs::steps::Reading::bind, uvl_grammar::specs::steps::Reading::done))]
     fn line(alloc: Global, tokens: &[Token]) -> Result<(Import, &[Token]), Stop> {
         let (path, rest) = reference(alloc, tokens)?;
         let (alias, rest) = alias(alloc, rest)?;
@@ -60,7 +60,7 @@ impl SectionLine for Import {
 }
 
 /// Reads what an import is called here, where that is said.
-#[tactic(auto, unfolding(crate::specs::Readers::Sections::alias, crate::specs::Reading::choose, crate::specs::Reading::bind, crate::specs::Reading::done))]
+#[tactic(auto, unfolding(uvl_grammar::specs::steps::Sections::alias, uvl_grammar::specs::steps::Reading::choose, uvl_grammar::specs::steps::Reading::bind, uvl_grammar::specs::steps::Reading::done))]
 fn alias(alloc: Global, tokens: &[Token]) -> Result<(Option<Ref>, &[Token]), Stop>
     ensures { Gives (λ r. (r.0, r.1.now)) result (alias tokens.now) }
 {
@@ -77,7 +77,7 @@ fn alias(alloc: Global, tokens: &[Token]) -> Result<(Option<Ref>, &[Token]), Sto
 impl SectionLine for Expr {
     ghost reader = { rule };
 
-    #[tactic(auto, unfolding(crate::specs::Readers::Sections::rule, crate::specs::Reading::bind, crate::specs::Reading::done))]
+    #[tactic(auto, unfolding(uvl_grammar::specs::steps::Sections::rule, uvl_grammar::specs::steps::Reading::bind, uvl_grammar::specs::steps::Reading::done))]
     fn line(alloc: Global, tokens: &[Token]) -> Result<(Expr, &[Token]), Stop> {
         let (rule, rest) = expression(alloc, tokens)?;
         let (_, rest) = newline(rest)?;

@@ -1,8 +1,9 @@
 //! The readers of one token, and tests of the first one.
 ghost use Rattle.std.specs.Prelude.{◌≡◌, Ok, Err};
-ghost use Rattle.uvl_parser.specs.Tokens.{name_of};
-ghost use Rattle.uvl_parser.specs.Tests.{is_word, is_symbol, is_newline, is_indent, is_dedent, is_finish, stays, begins};
-ghost use Rattle.uvl_parser.specs.Reading.{Gives, one, accept};
+ghost use Rattle.uvl_grammar.specs.Tokens.{name_of};
+ghost use Rattle.uvl_grammar.specs.steps.Tests.{is_word, is_symbol, is_newline, is_indent, is_dedent, is_finish, stays, begins};
+ghost use Rattle.uvl_grammar.specs.steps.Reading.{one, accept};
+ghost use Rattle.uvl_parser.specs.steps.Gives.{Gives};
 
 use crate::reading::Stop;
 use uvl_base::{Name, Place};
@@ -19,7 +20,7 @@ pub(crate) fn begins_with_symbol(tokens: &[Token], symbol: Symbol) -> bool
 }
 
 /// Reads this symbol: its place, and what is behind it.
-#[tactic(auto, unfolding(crate::specs::Reading::one))]
+#[tactic(auto, unfolding(uvl_grammar::specs::steps::Reading::one))]
 pub(crate) fn symbol(tokens: &[Token], symbol: Symbol) -> Result<(Place, &[Token]), Stop>
     ensures { Gives (λ r. (r.0, r.1.now)) result (one (is_symbol symbol) tokens.now) }
 {
@@ -44,7 +45,7 @@ pub(crate) fn begins_with_word(tokens: &[Token], word: Word) -> bool
 }
 
 /// Reads this reserved word: its place, and what is behind it.
-#[tactic(auto, unfolding(crate::specs::Reading::one))]
+#[tactic(auto, unfolding(uvl_grammar::specs::steps::Reading::one))]
 pub(crate) fn word(tokens: &[Token], word: Word) -> Result<(Place, &[Token]), Stop>
     ensures { Gives (λ r. (r.0, r.1.now)) result (one (is_word word) tokens.now) }
 {
@@ -79,7 +80,7 @@ pub(crate) fn stays(tokens: &[Token]) -> bool
 }
 
 /// Reads the end of a line.
-#[tactic(auto, unfolding(crate::specs::Reading::one))]
+#[tactic(auto, unfolding(uvl_grammar::specs::steps::Reading::one))]
 pub(crate) fn newline(tokens: &[Token]) -> Result<(Place, &[Token]), Stop>
     ensures { Gives (λ r. (r.0, r.1.now)) result (one is_newline tokens.now) }
 {
@@ -94,7 +95,7 @@ pub(crate) fn newline(tokens: &[Token]) -> Result<(Place, &[Token]), Stop>
 }
 
 /// Reads a mark that opens a level of indentation.
-#[tactic(auto, unfolding(crate::specs::Reading::one))]
+#[tactic(auto, unfolding(uvl_grammar::specs::steps::Reading::one))]
 pub(crate) fn indent(tokens: &[Token]) -> Result<(Place, &[Token]), Stop>
     ensures { Gives (λ r. (r.0, r.1.now)) result (one is_indent tokens.now) }
 {
@@ -109,7 +110,7 @@ pub(crate) fn indent(tokens: &[Token]) -> Result<(Place, &[Token]), Stop>
 }
 
 /// Reads a mark that closes one.
-#[tactic(auto, unfolding(crate::specs::Reading::one))]
+#[tactic(auto, unfolding(uvl_grammar::specs::steps::Reading::one))]
 pub(crate) fn dedent(tokens: &[Token]) -> Result<(Place, &[Token]), Stop>
     ensures { Gives (λ r. (r.0, r.1.now)) result (one is_dedent tokens.now) }
 {
@@ -124,7 +125,7 @@ pub(crate) fn dedent(tokens: &[Token]) -> Result<(Place, &[Token]), Stop>
 }
 
 /// Reads the end of the file.
-#[tactic(auto, unfolding(crate::specs::Reading::one))]
+#[tactic(auto, unfolding(uvl_grammar::specs::steps::Reading::one))]
 pub(crate) fn finish(tokens: &[Token]) -> Result<(Place, &[Token]), Stop>
     ensures { Gives (λ r. (r.0, r.1.now)) result (one is_finish tokens.now) }
 {
@@ -139,7 +140,7 @@ pub(crate) fn finish(tokens: &[Token]) -> Result<(Place, &[Token]), Stop>
 }
 
 /// Reads a name.
-#[tactic(auto, unfolding(crate::specs::Reading::accept))]
+#[tactic(auto, unfolding(uvl_grammar::specs::steps::Reading::accept))]
 pub(crate) fn name(tokens: &[Token]) -> Result<(&Name, Place, &[Token]), Stop>
     ensures { Gives (λ r. ((r.0.now, r.1), r.2.now)) result (accept name_of tokens.now) }
 {

@@ -2,9 +2,10 @@
 //! `plain = name value?`, `value = "true" | "false" | "-"? number | text`, attributes in braces or
 //! values in brackets.
 ghost use Rattle.std.specs.Prelude.{◌≡◌, Ok, Err, Some, None, IfOk, option_map};
-ghost use Rattle.uvl_parser.specs.Reading.{Gives, many, behind_comma, separated, with_front, closed, accept, done};
-ghost use Rattle.uvl_parser.specs.Tests.{is_symbol, begins_value, begins};
-ghost use Rattle.uvl_parser.specs.Readers.Values.{value_of, simple_value, value_at, attribute_at, attribute, list_with, vector_with};
+ghost use Rattle.uvl_grammar.specs.steps.Reading.{many, behind_comma, separated, with_front, closed, accept, done};
+ghost use Rattle.uvl_parser.specs.steps.Gives.{Gives};
+ghost use Rattle.uvl_grammar.specs.steps.Tests.{is_symbol, begins_value, begins};
+ghost use Rattle.uvl_grammar.specs.steps.Values.{value_of, simple_value, value_at, attribute_at, attribute, list_with, vector_with};
 ghost use Rattle.uvl_lexer.specs.declared.token.Symbol.TheVariants.{Comma, RightBrace, RightBracket};
 
 use crate::number::{negated, number};
@@ -46,7 +47,7 @@ fn begins_value(tokens: &[Token]) -> bool
 }
 
 /// Reads a value that is one token.
-#[tactic(auto, unfolding(crate::specs::Reading::accept, crate::specs::Reading::bind, crate::specs::Reading::done))]
+#[tactic(auto, unfolding(uvl_grammar::specs::steps::Reading::accept, uvl_grammar::specs::steps::Reading::bind, uvl_grammar::specs::steps::Reading::done))]
 fn single_value(tokens: &[Token]) -> Result<(AttrValue, Place, &[Token]), Stop>
     ensures { Gives (λ r. ((r.0, r.1), r.2.now)) result (accept value_of tokens.now) }
 {
@@ -60,7 +61,7 @@ fn single_value(tokens: &[Token]) -> Result<(AttrValue, Place, &[Token]), Stop>
 }
 
 /// Reads a value without braces and brackets.
-#[tactic(auto, unfolding(crate::specs::Readers::Values::simple_value, crate::specs::Reading::choose, crate::specs::Reading::bind, crate::specs::Reading::done))]
+#[tactic(auto, unfolding(uvl_grammar::specs::steps::Values::simple_value, uvl_grammar::specs::steps::Reading::choose, uvl_grammar::specs::steps::Reading::bind, uvl_grammar::specs::steps::Reading::done))]
 fn simple_value(tokens: &[Token]) -> Result<(AttrValue, &[Token]), Stop>
     ensures { Gives (λ r. (r.0, r.1.now)) result (simple_value tokens.now) }
 {
@@ -83,7 +84,7 @@ pub(crate) fn attribute(alloc: Global, tokens: &[Token]) -> Result<(Attribute, &
 
 /// Reads an attribute whose value nests to fewer than `depth` levels.
 #[cycle(values)]
-#[tactic(auto, unfolding(crate::specs::Readers::Values::attribute_with, crate::specs::Reading::choose, crate::specs::Reading::bind, crate::specs::Reading::done))]
+#[tactic(auto, unfolding(uvl_grammar::specs::steps::Values::attribute_with, uvl_grammar::specs::steps::Reading::choose, uvl_grammar::specs::steps::Reading::bind, uvl_grammar::specs::steps::Reading::done))]
 fn attribute_at(
     alloc: Global,
     tokens: &[Token],
@@ -104,7 +105,7 @@ fn attribute_at(
 
 /// Reads a value that nests to fewer than `depth` levels.
 #[cycle(values)]
-#[tactic(auto, unfolding(crate::specs::Readers::Values::value_at, crate::specs::Readers::Values::value_with, crate::specs::Reading::choose, crate::specs::Reading::bind, crate::specs::Reading::done))]
+#[tactic(auto, unfolding(uvl_grammar::specs::steps::Values::value_at, uvl_grammar::specs::steps::Values::value_with, uvl_grammar::specs::steps::Reading::choose, uvl_grammar::specs::steps::Reading::bind, uvl_grammar::specs::steps::Reading::done))]
 fn value_at(alloc: Global, tokens: &[Token], depth: usize) -> Result<(AttrValue, &[Token]), Stop>
     ensures { Gives (λ r. (r.0, r.1.now)) result (value_at depth tokens.now) }
 {
@@ -124,7 +125,7 @@ fn value_at(alloc: Global, tokens: &[Token], depth: usize) -> Result<(AttrValue,
 
 /// Reads attributes with commas between them, and the brace that closes them.
 #[cycle(values)]
-#[tactic(auto, unfolding(crate::specs::Readers::Values::list_with, crate::specs::Reading::bind, crate::specs::Reading::done))]
+#[tactic(auto, unfolding(uvl_grammar::specs::steps::Values::list_with, uvl_grammar::specs::steps::Reading::bind, uvl_grammar::specs::steps::Reading::done))]
 fn list(alloc: Global, tokens: &[Token], depth: usize) -> Result<(AttrValue, &[Token]), Stop>
     ensures { Gives (λ r. (r.0, r.1.now)) result (list_with (value_at depth) tokens.now) }
 {
@@ -135,7 +136,7 @@ fn list(alloc: Global, tokens: &[Token], depth: usize) -> Result<(AttrValue, &[T
 
 /// Reads attributes with commas between them.
 #[cycle(values)]
-#[tactic(auto, unfolding(crate::specs::Reading::separated, crate::specs::Reading::choose, crate::specs::Reading::bind, crate::specs::Reading::done))]
+#[tactic(auto, unfolding(uvl_grammar::specs::steps::Reading::separated, uvl_grammar::specs::steps::Reading::choose, uvl_grammar::specs::steps::Reading::bind, uvl_grammar::specs::steps::Reading::done))]
 fn attributes(
     alloc: Global,
     tokens: &[Token],
@@ -177,7 +178,7 @@ fn more_attributes<'a>(
 
 /// Reads an attribute behind a comma.
 #[cycle(values)]
-#[tactic(auto, unfolding(crate::specs::Reading::behind_comma, crate::specs::Reading::bind))]
+#[tactic(auto, unfolding(uvl_grammar::specs::steps::Reading::behind_comma, uvl_grammar::specs::steps::Reading::bind))]
 fn next_attribute(
     alloc: Global,
     tokens: &[Token],
@@ -191,7 +192,7 @@ fn next_attribute(
 
 /// Reads values with commas between them, and the bracket that closes them.
 #[cycle(values)]
-#[tactic(auto, unfolding(crate::specs::Readers::Values::vector_with, crate::specs::Reading::bind, crate::specs::Reading::done))]
+#[tactic(auto, unfolding(uvl_grammar::specs::steps::Values::vector_with, uvl_grammar::specs::steps::Reading::bind, uvl_grammar::specs::steps::Reading::done))]
 fn vector(alloc: Global, tokens: &[Token], depth: usize) -> Result<(AttrValue, &[Token]), Stop>
     ensures { Gives (λ r. (r.0, r.1.now)) result (vector_with (value_at depth) tokens.now) }
 {
@@ -202,7 +203,7 @@ fn vector(alloc: Global, tokens: &[Token], depth: usize) -> Result<(AttrValue, &
 
 /// Reads values with commas between them.
 #[cycle(values)]
-#[tactic(auto, unfolding(crate::specs::Reading::separated, crate::specs::Reading::choose, crate::specs::Reading::bind, crate::specs::Reading::done))]
+#[tactic(auto, unfolding(uvl_grammar::specs::steps::Reading::separated, uvl_grammar::specs::steps::Reading::choose, uvl_grammar::specs::steps::Reading::bind, uvl_grammar::specs::steps::Reading::done))]
 fn values(
     alloc: Global,
     tokens: &[Token],
@@ -244,7 +245,7 @@ fn more_values<'a>(
 
 /// Reads a value behind a comma.
 #[cycle(values)]
-#[tactic(auto, unfolding(crate::specs::Reading::behind_comma, crate::specs::Reading::bind))]
+#[tactic(auto, unfolding(uvl_grammar::specs::steps::Reading::behind_comma, uvl_grammar::specs::steps::Reading::bind))]
 fn next_value(alloc: Global, tokens: &[Token], depth: usize) -> Result<(AttrValue, &[Token]), Stop>
     ensures { Gives (λ r. (r.0, r.1.now)) result (behind_comma (value_at depth) tokens.now) }
 {

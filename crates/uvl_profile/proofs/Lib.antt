@@ -1,4 +1,4 @@
 pub mod Fronts
 pub mod Sorts
-pub mod Levels
+pub mod Scopes
 pub mod Scanned

@@ -11,15 +11,15 @@ use Rattle.uvl_profile.specs.declared.section.Section.{Section}
 use Rattle.uvl_profile.specs.declared.section.SectionPart.{SectionPart}
 use Rattle.uvl_profile.specs.declared.section.SectionPart.TheVariants.{Outside, Heading, Headed, Body}
 use Rattle.uvl_lexer.specs.Kinds.{is_newline, is_indent, is_dedent}
-use Rattle.uvl_profile.specs.Lines.{is_line_mark, begins_line, line_of}
+use Rattle.uvl_profile.specs.Lines.{is_layout, begins_line, line_of}
 use Rattle.uvl_profile.specs.Sections.{section_named, in_heading, behind_outside, part_behind, part_of}
 use Rattle.uvl_profile.specs.Nesting.{deepens, open_brackets, nesting}
-use Rattle.uvl_profile.specs.Depth.{depth_around, depth_of}
+use Rattle.uvl_profile.specs.steps.Depth.{depth_around, depth_of}
 use Rattle.uvl_profile.specs.Rules.{rule_behind, ends_rule, with_node, is_node, rule_nodes}
 use Rattle.uvl_profile.specs.Met.{is_nested_too_deep}
-use Rattle.uvl_profile.specs.Scan.{levels_behind, levels_of, levels_kept, levels_in, nodes_in}
+use Rattle.uvl_profile.specs.steps.Scan.{scopes_behind, scopes_of, scopes_kept, indentations_in, nodes_in}
 use Rattle.uvl_profile.proofs.Sorts.{sort_of}
-use Rattle.uvl_profile.proofs.Levels.{nesting_is, brackets_are, some_level, deepens_levels, depth_behind}
+use Rattle.uvl_profile.proofs.Scopes.{nesting_is, brackets_are, some_scope, deepens_scopes, depth_behind}
 
 -- ---- no more than one for each token
 
@@ -27,27 +27,27 @@ either : {A : Type 0} (f : A → ℕ) (b : Bool) (x y : A) (n : ℕ) → f x ≤
 either f true x y n l r = l
 either f false x y n l r = r
 
-heading_low : (o : Option Section) → levels_in (in_heading o) ≡ 0
+heading_low : (o : Option Section) → indentations_in (in_heading o) ≡ 0
 heading_low (Some s) = refl
 heading_low None = refl
 
-outside_low : (first : Bool) (kind : TokenKind) → levels_in (behind_outside first kind) ≡ 0
+outside_low : (first : Bool) (kind : TokenKind) → indentations_in (behind_outside first kind) ≡ 0
 outside_low true kind = heading_low (section_named kind)
 outside_low false kind = refl
 
-levels_grow : (part : SectionPart) (first : Bool) (kind : TokenKind) → levels_in (part_behind part first kind) ≤ levels_in part + 1
-levels_grow Outside first kind = omega (arith, outside_low first kind)
-levels_grow (Heading s) first kind = either levels_in (is_newline kind) (Headed s) (Heading s) 1 (omega arith) (omega arith)
-levels_grow (Headed s) first kind =
-    either levels_in (is_indent kind) (Body s 1) (behind_outside first kind) 1 (omega arith) (omega (arith, outside_low first kind))
-levels_grow (Body s levels) first kind =
-    either levels_in (is_indent kind) (Body s (levels + 1)) _ (levels + 1) (omega arith)
-    (either levels_in (is_dedent kind) _ (Body s levels) (levels + 1)
-    (either levels_in (nat_lt levels 2) Outside (Body s (levels - 1)) (levels + 1) (omega arith) (omega arith)) (omega arith))
+indentations_grow : (part : SectionPart) (first : Bool) (kind : TokenKind) → indentations_in (part_behind part first kind) ≤ indentations_in part + 1
+indentations_grow Outside first kind = omega (arith, outside_low first kind)
+indentations_grow (Heading s) first kind = either indentations_in (is_newline kind) (Headed s) (Heading s) 1 (omega arith) (omega arith)
+indentations_grow (Headed s) first kind =
+    either indentations_in (is_indent kind) (Body s 1) (behind_outside first kind) 1 (omega arith) (omega (arith, outside_low first kind))
+indentations_grow (Body s indentations) first kind =
+    either indentations_in (is_indent kind) (Body s (indentations + 1)) _ (indentations + 1) (omega arith)
+    (either indentations_in (is_dedent kind) _ (Body s indentations) (indentations + 1)
+    (either indentations_in (nat_lt indentations 2) Outside (Body s (indentations - 1)) (indentations + 1) (omega arith) (omega arith)) (omega arith))
 
-pub levels_few : (before : List Token) → levels_in (part_of before) ≤ length before
-levels_few [] = omega arith
-levels_few (t ∷ before) = omega (arith, levels_few before, levels_grow (part_of before) (begins_line before) t.kind)
+pub indentations_few : (before : List Token) → indentations_in (part_of before) ≤ length before
+indentations_few [] = omega arith
+indentations_few (t ∷ before) = omega (arith, indentations_few before, indentations_grow (part_of before) (begins_line before) t.kind)
 
 node_more : (node : Bool) (nodes : Option ℕ) → nodes_in (with_node node nodes) ≤ nodes_in nodes + 1
 node_more node None = omega arith
@@ -62,44 +62,44 @@ nodes_few (t ∷ before) =
     either nodes_in (rule_behind before t) (Some 0) _ (suc (length before)) (omega arith)
     (either nodes_in (ends_rule t.kind) None _ (suc (length before)) (omega arith) (omega (arith, more, few)))
 
-pub depth_small : (before : List Token) → depth_of (levels_of before) ≤ length before
+pub depth_small : (before : List Token) → depth_of (scopes_of before) ≤ length before
 depth_small [] = omega arith
 depth_small (t ∷ before) =
-    either depth_of (is_line_mark t.kind) (0 ∷ []) (levels_behind (levels_of before) t.kind) (suc (length before)) (omega arith)
-    (omega (arith, depth_small before, depth_behind (levels_of before) t.kind (sort_of t.kind) (some_level before)))
+    either depth_of (is_layout t.kind) (0 ∷ []) (scopes_behind (scopes_of before) t.kind) (suc (length before)) (omega arith)
+    (omega (arith, depth_small before, depth_behind (scopes_of before) t.kind (sort_of t.kind) (some_scope before)))
 
 -- the nesting that is kept
-pub depth_few : (n : Nesting) (before : List Token) → levels_kept n ≡ levels_of before → n.depth ≡ n.inside + depth_around (reverse n.around.items)
+pub depth_few : (n : Nesting) (before : List Token) → scopes_kept n ≡ scopes_of before → n.depth ≡ n.inside + depth_around (reverse n.around.items)
     → n.depth ≤ length before
-depth_few n before levels counted = omega (arith, depth_small before, ap depth_of levels, counted)
+depth_few n before scopes counted = omega (arith, depth_small before, ap depth_of scopes, counted)
 
 -- ---- what is kept answers
 
-deepens_no_mark : (kind : TokenKind) → deepens kind ≡ true → is_line_mark kind ≡ false
+deepens_no_mark : (kind : TokenKind) → deepens kind ≡ true → is_layout kind ≡ false
 deepens_no_mark token.Newline d = cc
 deepens_no_mark token.Indent d = cc
 deepens_no_mark token.Dedent d = cc
 deepens_no_mark _ d = refl
 
 -- behind a bracket or `!` the nesting is one more
-pub deepened : (before : List Token) (t : Token) → deepens t.kind ≡ true → depth_of (levels_of (t ∷ before)) ≡ depth_of (levels_of before) + 1
+pub deepened : (before : List Token) (t : Token) → deepens t.kind ≡ true → depth_of (scopes_of (t ∷ before)) ≡ depth_of (scopes_of before) + 1
 deepened before t d =
-    ap (λ m. depth_of (cond m (0 ∷ []) (levels_behind (levels_of before) t.kind))) (deepens_no_mark t.kind d)
-    ∙ deepens_levels (levels_of before) t.kind (sort_of t.kind) (some_level before) d
+    ap (λ m. depth_of (cond m (0 ∷ []) (scopes_behind (scopes_of before) t.kind))) (deepens_no_mark t.kind d)
+    ∙ deepens_scopes (scopes_of before) t.kind (sort_of t.kind) (some_scope before) d
 
-pub nested_there : (n : Nesting) (before : List Token) (t : Token) → levels_kept n ≡ levels_of before
+pub nested_there : (n : Nesting) (before : List Token) (t : Token) → scopes_kept n ≡ scopes_of before
     → n.depth ≡ n.inside + depth_around (reverse n.around.items) → deepens t.kind ≡ true → (n.depth == 128) ≡ is_nested_too_deep before t
-nested_there n before t levels counted d =
-    let now : n.depth ≡ depth_of (levels_of before) = counted ∙ ap depth_of levels in
+nested_there n before t scopes counted d =
+    let now : n.depth ≡ depth_of (scopes_of before) = counted ∙ ap depth_of scopes in
     same_test n.depth (nesting (line_of (t ∷ before))) (sym (nesting_is (t ∷ before)) ∙ deepened before t d ∙ ap (λ k. k + 1) (sym now))
     ∙ ap (λ b. b && nesting (line_of (t ∷ before)) == 129) (sym d)
   where
     same_test : (m k : ℕ) → k ≡ m + 1 → (m == 128) ≡ (k == 129)
     same_test m k e = grind (arith, nat_tests)
 
-pub outside_there : (n : Nesting) (before : List Token) → levels_kept n ≡ levels_of before
+pub outside_there : (n : Nesting) (before : List Token) → scopes_kept n ≡ scopes_of before
     → (length n.around.items == 0) ≡ (open_brackets (line_of before) == 0)
-outside_there n before levels =
+outside_there n before scopes =
     let same : length n.around.items ≡ open_brackets (line_of before) =
-    omega (arith, ap length levels, brackets_are before, length-reverse n.around.items) in
+    omega (arith, ap length scopes, brackets_are before, length-reverse n.around.items) in
     ap (λ k. k == 0) same

@@ -1,5 +1,6 @@
 -- The conditions of the named faults, each of a token and the tokens in front of it, the nearest first.
-use Rattle.std.specs.Prelude.{ℕ, Bool, true, false, not, ◌&&◌, ◌||◌, ◌==◌, cond, List, [], ◌∷◌, Option, Some, None}
+use Rattle.std.specs.Prelude.{ℕ, ◌+◌, ◌*◌, Bool, true, false, not, ◌&&◌, ◌||◌, ◌==◌, cond, List, [], ◌∷◌, Option, Some, None}
+use Rattle.uvl_base.specs.Limits.{most_depth, most_nesting, most_rule_nodes}
 use Rattle.uvl_base.specs.declared.fault.FaultKind.{FaultKind}
 use Rattle.uvl_base.specs.declared.fault.FaultKind.TheVariants.{TypedFeature, FeatureCardinality, Average, UnsupportedOperation, ExpressionTooLarge, TooDeep}
 use Rattle.uvl_lexer.specs.declared.token.Token.{Token}
@@ -70,9 +71,9 @@ is_unsupported before kind =
     || (is_text kind && is_in Constraints before)
     || (is_symbol symbol.Comma kind && behind_sum_of_name before)
 
--- a bracket or `!` with which the nesting of what follows is 129
+-- a bracket or `!` with which what follows nests too deep
 abbrev pub is_nested_too_deep : List Token → Token → Bool
-is_nested_too_deep before t = deepens t.kind && nesting (line_of (t ∷ before)) == 129
+is_nested_too_deep before t = deepens t.kind && nesting (line_of (t ∷ before)) == most_nesting + 1
 
 -- ---- where the token may stand there
 
@@ -81,22 +82,22 @@ abbrev pub names_feature : List Token → Bool
 names_feature [] = false
 names_feature (t ∷ before) = begins_line (t ∷ before) || (is_word word.Boolean t.kind && begins_line before)
 
--- Whether a feature there has the depth 65: the root has one level of indentation, and each level of the
--- tree two more, with that of the groups between.
-abbrev pub is_at_depth_65 : SectionPart → Bool
-is_at_depth_65 (Body s levels) = same_section Features s && levels == 129
-is_at_depth_65 _ = false
+-- Whether a feature there is deeper than features may nest: the root has one indentation, and each feature
+-- below another two more, with that of the group between.
+abbrev pub is_below_most_depth : SectionPart → Bool
+is_below_most_depth (Body s indentations) = same_section Features s && indentations == 2 * most_depth + 1
+is_below_most_depth _ = false
 
--- the reference of a feature at depth 65
+-- the reference of a feature that nests too deep
 abbrev pub is_feature_too_deep : List Token → TokenKind → Bool
-is_feature_too_deep before kind = is_name kind && names_feature before && is_at_depth_65 (part_of before)
+is_feature_too_deep before kind = is_name kind && names_feature before && is_below_most_depth (part_of before)
 
--- whether a rule has 8,192 nodes
+-- whether a rule has as many nodes as it may
 abbrev pub is_full : Option ℕ → Bool
 is_full None = false
-is_full (Some nodes) = nodes == 8192
+is_full (Some nodes) = nodes == most_rule_nodes
 
--- the 8,193rd node of a rule
+-- one node more than a rule may have
 abbrev pub is_node_too_many : List Token → TokenKind → Bool
 is_node_too_many before kind = is_node before kind && is_full (rule_nodes before)
 

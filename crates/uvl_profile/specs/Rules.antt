@@ -9,7 +9,7 @@ use Rattle.uvl_base.specs.declared.word.Word.TheVariants as word
 use Rattle.uvl_lexer.specs.declared.token.Symbol.TheVariants as symbol
 use Rattle.uvl_profile.specs.declared.section.Section.TheVariants.{Features, Constraints}
 use Rattle.uvl_lexer.specs.Kinds.{Test, is_word, is_symbol, begins}
-use Rattle.uvl_profile.specs.Lines.{is_line_mark}
+use Rattle.uvl_profile.specs.Lines.{is_layout}
 use Rattle.uvl_profile.specs.Nesting.{one_if}
 use Rattle.uvl_profile.specs.Sections.{is_in}
 
@@ -69,12 +69,12 @@ opens_list before kind = is_symbol symbol.LeftBracket kind && begins (is_word wo
 abbrev pub in_list : List Token → Bool
 in_list [] = false
 in_list (t ∷ before) =
-    opens_list before t.kind || (in_list before && not (is_symbol symbol.RightBracket t.kind) && not (is_line_mark t.kind))
+    opens_list before t.kind || (in_list before && not (is_symbol symbol.RightBracket t.kind) && not (is_layout t.kind))
 
 -- whether a rule begins behind a token
 abbrev pub rule_behind : List Token → Token → Bool
 rule_behind before t =
-    (is_line_mark t.kind && is_in Constraints (t ∷ before))
+    (is_layout t.kind && is_in Constraints (t ∷ before))
     || (is_word word.Constraint t.kind && is_in Features before)
     || opens_list before t.kind
     || (is_symbol symbol.Comma t.kind && in_list before)
@@ -82,7 +82,7 @@ rule_behind before t =
 -- what stands in no rule
 abbrev pub ends_rule : Test
 ends_rule kind =
-    is_line_mark kind || is_symbol symbol.Comma kind || is_symbol symbol.RightBracket kind || is_symbol symbol.RightBrace kind
+    is_layout kind || is_symbol symbol.Comma kind || is_symbol symbol.RightBracket kind || is_symbol symbol.RightBrace kind
 
 -- a rule with one node more, or with as many
 abbrev pub with_node : Bool → Option ℕ → Option ℕ

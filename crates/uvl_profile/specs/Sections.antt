@@ -31,18 +31,18 @@ in_heading None = Outside
 abbrev pub behind_outside : Bool → TokenKind → SectionPart
 behind_outside first kind = cond first (in_heading (section_named kind)) Outside
 
--- a body is over behind the Dedent that closes its first level
+-- a body is over behind the Dedent that closes its first indentation
 abbrev pub behind_in_body : Section → ℕ → TokenKind → SectionPart
-behind_in_body s levels kind =
-    cond (is_indent kind) (Body s (levels + 1))
-    (cond (is_dedent kind) (cond (nat_lt levels 2) Outside (Body s (levels - 1))) (Body s levels))
+behind_in_body s indentations kind =
+    cond (is_indent kind) (Body s (indentations + 1))
+    (cond (is_dedent kind) (cond (nat_lt indentations 2) Outside (Body s (indentations - 1))) (Body s indentations))
 
 -- the part of a section behind a token, which is the first in its line or not
 abbrev pub part_behind : SectionPart → Bool → TokenKind → SectionPart
 part_behind Outside first kind = behind_outside first kind
 part_behind (Heading s) first kind = cond (is_newline kind) (Headed s) (Heading s)
 part_behind (Headed s) first kind = cond (is_indent kind) (Body s 1) (behind_outside first kind)
-part_behind (Body s levels) first kind = behind_in_body s levels kind
+part_behind (Body s indentations) first kind = behind_in_body s indentations kind
 
 -- the part of a section in which what follows stands
 abbrev pub part_of : List Token → SectionPart
@@ -62,7 +62,7 @@ abbrev pub belongs : Section → SectionPart → Bool
 belongs s Outside = false
 belongs s (Heading other) = same_section s other
 belongs s (Headed other) = false
-belongs s (Body other levels) = same_section s other
+belongs s (Body other indentations) = same_section s other
 
 -- whether what follows stands in a section
 abbrev pub is_in : Section → List Token → Bool

@@ -1,6 +1,6 @@
 //! Tests of a token's kind.
 ghost use Rattle.std.specs.Prelude.{◌≡◌};
-ghost use Rattle.uvl_profile.specs.Lines.{is_line_mark};
+ghost use Rattle.uvl_profile.specs.Lines.{is_layout};
 ghost use Rattle.uvl_profile.specs.Nesting.{opens_bracket, closes_bracket, ends_operand, deepens};
 ghost use Rattle.uvl_profile.specs.Rules.{ends_number, is_operator, ends_rule};
 ghost use Rattle.uvl_profile.specs.Met.{is_type, is_function, is_name, is_text};
@@ -8,8 +8,8 @@ ghost use Rattle.uvl_profile.specs.Met.{is_type, is_function, is_name, is_text};
 use uvl_lexer::{Symbol, TokenKind, Word};
 
 /// Whether it stands between lines.
-pub(crate) fn is_line_mark(kind: &TokenKind) -> bool
-    ensures { result ≡ is_line_mark kind.now }
+pub(crate) fn is_layout(kind: &TokenKind) -> bool
+    ensures { result ≡ is_layout kind.now }
 {
     matches!(
         kind,

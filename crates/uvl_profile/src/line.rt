@@ -5,7 +5,7 @@ ghost use Rattle.uvl_lexer.specs.Kinds.{begins, is_word, is_symbol};
 ghost use Rattle.uvl_profile.specs.Rules as rules;
 ghost use Rattle.uvl_profile.specs.Met as met;
 
-use crate::kinds::{ends_number, is_line_mark, is_name};
+use crate::kinds::{ends_number, is_layout, is_name};
 use uvl_lexer::{Symbol, Token, Word};
 
 /// Whether what follows is first in its line.
@@ -14,7 +14,7 @@ pub(crate) fn begins_line(front: &[Token]) -> bool
     ensures { result ≡ spec.begins_line (reverse front.now) }
 {
     match front.split_last() {
-        Some((last, _)) => is_line_mark(&last.kind),
+        Some((last, _)) => is_layout(&last.kind),
         None => true,
     }
 }
@@ -94,7 +94,7 @@ pub(crate) fn names_feature(front: &[Token]) -> bool
 {
     match front.split_last() {
         Some((last, rest)) => {
-            is_line_mark(&last.kind) || last.kind.is_word(Word::Boolean) && begins_line(rest)
+            is_layout(&last.kind) || last.kind.is_word(Word::Boolean) && begins_line(rest)
         }
         None => false,
     }

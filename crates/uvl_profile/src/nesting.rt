@@ -1,6 +1,6 @@
 //! How deep brackets and `!` nest at a place in a line.
 ghost use Rattle.std.specs.Prelude.{◌≡◌, ◌+◌, ◌<◌, ◌^◌, ◌==◌, length, reverse};
-ghost use Rattle.uvl_profile.specs.Depth.{depth_around};
+ghost use Rattle.uvl_profile.specs.steps.Depth.{depth_around};
 
 use crate::kinds::{closes_bracket, ends_operand, opens_bracket};
 use std::alloc::{AllocError, Global};
@@ -21,11 +21,11 @@ pub(crate) struct Nesting {
 
 impl Nesting {
     ghost use Rattle.std.specs.Prelude.{[], ◌∷◌, OnOk};
-    ghost use Rattle.uvl_profile.specs.Scan.{levels_kept, levels_behind, outer_levels};
+    ghost use Rattle.uvl_profile.specs.steps.Scan.{scopes_kept, scopes_behind, outer_scopes};
 
     /// At the front of a line.
     pub(crate) fn new(alloc: Global) -> Nesting
-        ensures { levels_kept result ≡ 0 ∷ [] }
+        ensures { scopes_kept result ≡ 0 ∷ [] }
     {
         Nesting {
             around: Vec::new(alloc),
@@ -43,7 +43,7 @@ impl Nesting {
 
     /// Goes on to the next line.
     pub(crate) fn end_line(&mut self)
-        ensures { levels_kept self.new ≡ 0 ∷ [] }
+        ensures { scopes_kept self.new ≡ 0 ∷ [] }
     {
         self.around.clear();
         self.inside = 0;
@@ -53,7 +53,7 @@ impl Nesting {
     /// Takes a token of the line.
     pub(crate) fn take(&mut self, kind: &TokenKind) -> Result<(), AllocError>
         requires { self.old.depth + 1 < 2 ^ 64 }
-        ensures { OnOk result (levels_kept self.new ≡ levels_behind (levels_kept self.old) kind.now) }
+        ensures { OnOk result (scopes_kept self.new ≡ scopes_behind (scopes_kept self.old) kind.now) }
     {
         if opens_bracket(kind) {
             self.open()?;
@@ -71,7 +71,7 @@ impl Nesting {
     #[tactic(auto, using(crate::proofs::Fronts::reverse_last))]
     fn open(&mut self) -> Result<(), AllocError>
         requires { self.old.depth + 1 < 2 ^ 64 }
-        ensures { OnOk result (levels_kept self.new ≡ 0 ∷ levels_kept self.old) }
+        ensures { OnOk result (scopes_kept self.new ≡ 0 ∷ scopes_kept self.old) }
     {
         self.around.push(self.inside)?;
         self.inside = 0;
@@ -82,7 +82,7 @@ impl Nesting {
     #[tactic(auto, using(crate::proofs::Fronts::reverse_last))]
     /// Closes the innermost bracket, if there is one; what applies inside it doesn't outside.
     fn close(&mut self)
-        ensures { levels_kept self.new ≡ outer_levels (reverse self.old.around.items) }
+        ensures { scopes_kept self.new ≡ outer_scopes (reverse self.old.around.items) }
     {
         match self.around.pop() {
             Some(around) => {
@@ -97,7 +97,7 @@ impl Nesting {
     }
 
     fn end_operand(&mut self)
-        ensures { levels_kept self.new ≡ 0 ∷ reverse self.old.around.items }
+        ensures { scopes_kept self.new ≡ 0 ∷ reverse self.old.around.items }
     {
         self.depth -= self.inside;
         self.inside = 0;

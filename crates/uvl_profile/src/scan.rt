@@ -4,16 +4,16 @@ ghost use Rattle.uvl_profile.specs.First.{NothingMet, IsFirstMet};
 ghost use Rattle.uvl_profile.specs.Met as spec;
 ghost use Rattle.uvl_profile.specs.Met.{met_by_word, met_limit, met_of, if_nested};
 ghost use Rattle.uvl_profile.specs.Rules as rules;
-ghost use Rattle.uvl_profile.specs.Scan.{Follows, begins_rule, nodes_in, nodes_behind};
+ghost use Rattle.uvl_profile.specs.steps.Scan.{Follows, begins_rule, nodes_in, nodes_behind};
 
 use crate::candidate::{Candidate, Met};
-use crate::kinds::{deepens, ends_rule, is_function, is_line_mark, is_name, is_text, is_type};
+use crate::kinds::{deepens, ends_rule, is_function, is_layout, is_name, is_text, is_type};
 use crate::line::{begins_line, is_behind_sum_of_name, is_behind_word, names_feature};
 use crate::nesting::Nesting;
 use crate::rule::is_node;
 use crate::section::{Section, SectionPart};
 use std::alloc::{AllocError, Global};
-use uvl_base::FaultKind;
+use uvl_base::{FaultKind, MOST_DEPTH, MOST_NESTING, MOST_RULE_NODES};
 use uvl_lexer::{Symbol, Token, TokenKind, Word};
 
 /// What the tokens in front of a place say of it.
@@ -154,24 +154,24 @@ impl Scan {
             || kind.is_symbol(Symbol::Comma) && is_behind_sum_of_name(front)
     }
 
-    /// Whether a bracket or `!` makes the nesting of what follows 129.
+    /// Whether it is a bracket or `!` with which what follows nests too deep.
     fn is_nested_too_deep(&self, front: &[Token], token: &Token) -> bool
         requires { Follows (reverse front.now) self.now }
         ensures { result ≡ spec.is_nested_too_deep (reverse front.now) token.now }
     {
-        deepens(&token.kind) && self.nesting.depth == 128
+        deepens(&token.kind) && self.nesting.depth == MOST_NESTING
     }
 
-    /// Whether it is the reference of a feature at depth 65: the root has one level of indentation,
-    /// and each level of the tree two more, with that of the groups between.
+    /// Whether it is the reference of a feature that nests too deep: the root has one indentation, and
+    /// each feature below another two more, with that of the group between.
     fn is_feature_too_deep(&self, front: &[Token], kind: &TokenKind) -> bool
         requires { Follows (reverse front.now) self.now }
         ensures { result ≡ spec.is_feature_too_deep (reverse front.now) kind.now }
     {
-        is_name(kind) && names_feature(front) && is_at_depth_65(self.part)
+        is_name(kind) && names_feature(front) && is_below_most_depth(self.part)
     }
 
-    /// Whether it is the 8,193rd node of a rule.
+    /// Whether it is one node more than a rule may have.
     fn is_node_too_many(&self, front: &[Token], kind: &TokenKind) -> bool
         requires { Follows (reverse front.now) self.now }
         ensures { result ≡ spec.is_node_too_many (reverse front.now) kind.now }
@@ -191,9 +191,9 @@ impl Scan {
         let begins = self.begins_rule(part, opens, kind);
         self.nodes = nodes_behind(self.nodes, begins, ends_rule(kind), is_node(front, kind));
         self.list = opens
-            || self.list && !kind.is_symbol(Symbol::RightBracket) && !is_line_mark(kind);
+            || self.list && !kind.is_symbol(Symbol::RightBracket) && !is_layout(kind);
         self.part = part;
-        if is_line_mark(kind) {
+        if is_layout(kind) {
             self.nesting.end_line();
             Ok(())
         } else {
@@ -215,7 +215,7 @@ impl Scan {
     fn begins_rule(&self, behind: SectionPart, opens_list: bool, kind: &TokenKind) -> bool
         ensures { result ≡ begins_rule behind self.now.part self.now.list opens_list kind.now }
     {
-        is_line_mark(kind) && behind.belongs(Section::Constraints)
+        is_layout(kind) && behind.belongs(Section::Constraints)
             || kind.is_word(Word::Constraint) && self.part.belongs(Section::Features)
             || opens_list
             || kind.is_symbol(Symbol::Comma) && self.list
@@ -233,11 +233,11 @@ fn if_nested(nested: bool) -> Option<FaultKind>
     }
 }
 
-fn is_at_depth_65(part: SectionPart) -> bool
-    ensures { result ≡ spec.is_at_depth_65 part }
+fn is_below_most_depth(part: SectionPart) -> bool
+    ensures { result ≡ spec.is_below_most_depth part }
 {
     match part {
-        SectionPart::Body(Section::Features, levels) => levels == 129,
+        SectionPart::Body(Section::Features, indentations) => indentations == 2 * MOST_DEPTH + 1,
         _ => false,
     }
 }
@@ -246,7 +246,7 @@ fn is_full(nodes: Option<usize>) -> bool
     ensures { result ≡ spec.is_full nodes }
 {
     match nodes {
-        Some(nodes) => nodes == 8192,
+        Some(nodes) => nodes == MOST_RULE_NODES,
         None => false,
     }
 }

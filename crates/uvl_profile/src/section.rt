@@ -1,7 +1,7 @@
 //! Sections of a file, as the tokens in front of a place tell them.
 ghost use Rattle.std.specs.Prelude.{◌≡◌, ◌+◌, ◌<◌, ◌^◌};
 ghost use Rattle.uvl_profile.specs.Sections as spec;
-ghost use Rattle.uvl_profile.specs.Scan.{levels_in};
+ghost use Rattle.uvl_profile.specs.steps.Scan.{indentations_in};
 
 use uvl_lexer::{TokenKind, Word};
 
@@ -23,7 +23,7 @@ pub enum SectionPart {
     Heading(Section),
     /// Behind that line: the section goes on where an Indent stands there.
     Headed(Section),
-    /// In its body, with so many levels of indentation open in it.
+    /// In its body, with so many indentations open in it.
     Body(Section, usize),
 }
 
@@ -40,7 +40,7 @@ impl SectionPart {
 
     /// The part behind a token, which is the first in its line or not.
     pub(crate) fn behind(self, first: bool, kind: &TokenKind) -> SectionPart
-        requires { levels_in self + 1 < 2 ^ 64 }
+        requires { indentations_in self + 1 < 2 ^ 64 }
         ensures { result ≡ spec.part_behind self first kind.now }
     {
         match self {
@@ -59,7 +59,7 @@ impl SectionPart {
                     behind_outside(first, kind)
                 }
             }
-            SectionPart::Body(section, levels) => behind_in_body(section, levels, kind),
+            SectionPart::Body(section, indentations) => behind_in_body(section, indentations, kind),
         }
     }
 }
@@ -105,20 +105,20 @@ fn behind_outside(first: bool, kind: &TokenKind) -> SectionPart
     }
 }
 
-/// A body is over behind the Dedent that closes its first level.
-fn behind_in_body(section: Section, levels: usize, kind: &TokenKind) -> SectionPart
-    requires { levels + 1 < 2 ^ 64 }
-    ensures { result ≡ spec.behind_in_body section levels kind.now }
+/// A body is over behind the Dedent that closes its first indentation.
+fn behind_in_body(section: Section, indentations: usize, kind: &TokenKind) -> SectionPart
+    requires { indentations + 1 < 2 ^ 64 }
+    ensures { result ≡ spec.behind_in_body section indentations kind.now }
 {
     if kind.is_indent() {
-        SectionPart::Body(section, levels + 1)
+        SectionPart::Body(section, indentations + 1)
     } else if kind.is_dedent() {
-        if levels < 2 {
+        if indentations < 2 {
             SectionPart::Outside
         } else {
-            SectionPart::Body(section, levels - 1)
+            SectionPart::Body(section, indentations - 1)
         }
     } else {
-        SectionPart::Body(section, levels)
+        SectionPart::Body(section, indentations)
     }
 }

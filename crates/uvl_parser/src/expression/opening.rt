@@ -1,6 +1,6 @@
 //! What an operand of numbers begins with.
 ghost use Rattle.std.specs.Prelude.{◌≡◌};
-ghost use Rattle.uvl_parser.specs.Openings as spec;
+ghost use Rattle.uvl_parser.specs.steps.Openings as spec;
 
 use uvl_base::Fixed;
 use uvl_lexer::{Symbol, TokenKind, Word};

@@ -1,8 +1,8 @@
 //! The parts of expressions that no expression stands in.
 ghost use Rattle.std.specs.Prelude.{◌≡◌, Ok, Err, IfOk};
 ghost use Rattle.uvl_ast.specs.declared.expression.Expr.TheVariants as expr;
-ghost use Rattle.uvl_parser.specs.Reading.{Gives};
-ghost use Rattle.uvl_parser.specs.Readers.Expressions.{negative, total, named};
+ghost use Rattle.uvl_parser.specs.steps.Gives.{Gives};
+ghost use Rattle.uvl_grammar.specs.steps.Expressions.{negative, total, named};
 
 use crate::number::{negated, number};
 use crate::reading::Stop;
@@ -15,7 +15,7 @@ use uvl_base::Place;
 use uvl_lexer::{Symbol, Token};
 
 /// Reads the number behind a minus.
-#[tactic(auto, unfolding(crate::specs::Readers::Expressions::negative, crate::specs::Reading::bind, crate::specs::Reading::done))]
+#[tactic(auto, unfolding(uvl_grammar::specs::steps::Expressions::negative, uvl_grammar::specs::steps::Reading::bind, uvl_grammar::specs::steps::Reading::done))]
 pub(crate) fn negative(
     alloc: Global,
     minus: Place,
@@ -31,7 +31,7 @@ pub(crate) fn negative(
 }
 
 /// Reads what is behind the word `sum`: the name of an attribute in parentheses.
-#[tactic(auto, unfolding(crate::specs::Readers::Expressions::total, crate::specs::Reading::bind, crate::specs::Reading::done))]
+#[tactic(auto, unfolding(uvl_grammar::specs::steps::Expressions::total, uvl_grammar::specs::steps::Reading::bind, uvl_grammar::specs::steps::Reading::done))]
 pub(crate) fn total(
     alloc: Global,
     word: Place,
@@ -46,7 +46,7 @@ pub(crate) fn total(
 }
 
 /// Reads the name of a feature or of an attribute.
-#[tactic(auto, unfolding(crate::specs::Readers::Expressions::named, crate::specs::Reading::bind, crate::specs::Reading::done))]
+#[tactic(auto, unfolding(uvl_grammar::specs::steps::Expressions::named, uvl_grammar::specs::steps::Reading::bind, uvl_grammar::specs::steps::Reading::done))]
 pub(crate) fn named(alloc: Global, tokens: &[Token]) -> Result<(Boxed<Expr>, &[Token]), Stop>
     ensures { Gives (λ r. (r.0, r.1.now)) result (named tokens.now) }
 {

@@ -1,6 +1,6 @@
-use Rattle.uvl_parser.specs.Reading.{many, behind_comma}
-use Rattle.uvl_parser.specs.Tests.{is_symbol}
-use Rattle.uvl_parser.specs.Readers.Braces.{entry}
+use Rattle.uvl_grammar.specs.steps.Reading.{many, behind_comma}
+use Rattle.uvl_grammar.specs.steps.Tests.{is_symbol}
+use Rattle.uvl_grammar.specs.steps.Braces.{entry}
 use Rattle.uvl_lexer.specs.declared.token.Symbol.TheVariants.{Comma}
 use Rattle.uvl_parser.proofs.Keeping.{KeptSoFar}
 use Rattle.uvl_parser.proofs.entries.more_entries.Given as goal

@@ -1,6 +1,6 @@
-use Rattle.uvl_parser.specs.Reading.{many, behind_comma, with_front}
-use Rattle.uvl_parser.specs.Tests.{is_symbol}
-use Rattle.uvl_parser.specs.Readers.Expressions.{expression}
+use Rattle.uvl_grammar.specs.steps.Reading.{many, behind_comma, with_front}
+use Rattle.uvl_grammar.specs.steps.Tests.{is_symbol}
+use Rattle.uvl_grammar.specs.steps.Expressions.{expression}
 use Rattle.uvl_lexer.specs.declared.token.Symbol.TheVariants.{Comma}
 use Rattle.uvl_parser.proofs.Turns.{TurnsLeft}
 use Rattle.uvl_parser.proofs.entries.more_rules.Given as goal

@@ -2,12 +2,12 @@
 use Rattle.std.proofs.Common.{sym, arith}
 use Rattle.std.proofs.lemmas.Result.{err_from_is_err_and}
 use Rattle.uvl_lexer.specs.declared.token.Symbol.TheVariants as symbol
-use Rattle.uvl_parser.specs.Tests.{is_symbol}
-use Rattle.uvl_parser.specs.Expressions.{comparison_operator}
+use Rattle.uvl_grammar.specs.steps.Tests.{is_symbol}
+use Rattle.uvl_grammar.specs.Expressions.{comparison_operator}
 use Rattle.uvl_parser.proofs.Turns.{fails_on}
-use Rattle.uvl_parser.proofs.Parts.Expressions.Steps.{one_takes, accept_takes, some_operator, comparison_fails, comparison_ends, comparison_reads, comparison_stops, operand_plain, operand_fails, operand_reads, operand_stops, primary_by, primary_is_literal, primary_of_nothing, negative_shorter, total_shorter, named_shorter, leaves}
-use Rattle.uvl_parser.proofs.Parts.Expressions.Ranks.{rank_below}
-use Rattle.uvl_parser.proofs.Parts.Expressions.Tails.{level_begins, level_fails, level_ends, level_over, level_goes, level_stops}
+use Rattle.uvl_parser.proofs.Expressions.Steps.{one_takes, accept_takes, some_operator, comparison_fails, comparison_ends, comparison_reads, comparison_stops, operand_plain, operand_fails, operand_reads, operand_stops, primary_by, primary_is_literal, primary_of_nothing, negative_shorter, total_shorter, named_shorter, leaves}
+use Rattle.uvl_parser.proofs.Expressions.Ranks.{rank_below}
+use Rattle.uvl_parser.proofs.Expressions.Tails.{precedence_begins, precedence_fails, precedence_ends, precedence_over, precedence_goes, precedence_stops}
 use Rattle.uvl_parser.proofs.expression.+expression.Goals as goal
 
 -- ---- comparison
@@ -47,31 +47,31 @@ comparison-returns-clause-shorter t c =
 pub grouped-returns-in_err-left-clause-reads : goal.grouped-returns-in_err-left-clause-reads
 grouped-returns-in_err-left-clause-reads t c =
     let p = err_from_is_err_and c.from_residual.result c.from_residual.ensures.1 in
-    rw (p.1, p.2) (fails_on _ _ _ c.in_err-left.ensures.reads (λ left stops. level_fails _ _ _ left c.tightest-most.ensures stops))
+    rw (p.1, p.2) (fails_on _ _ _ c.in_err-left.ensures.reads (λ left stops. precedence_fails _ _ _ left c.tightest-most.ensures stops))
 
 pub grouped-loop-turn-init : goal.grouped-loop-turn-init
-grouped-loop-turn-init t c = level_begins _ _ _ _ _ c.tightest-most.ensures c.in_ok-left.ensures.reads c.in_ok-left.ensures.shorter _ (omega arith)
+grouped-loop-turn-init t c = precedence_begins _ _ _ _ _ c.tightest-most.ensures c.in_ok-left.ensures.reads c.in_ok-left.ensures.shorter _ (omega arith)
 
 pub grouped-returns-in_default-clause-reads : goal.grouped-returns-in_default-clause-reads
-grouped-returns-in_default-clause-reads t c = level_ends _ _ _ _ _ _ c.loop-turn.invariant c.in_default.ensures
+grouped-returns-in_default-clause-reads t c = precedence_ends _ _ _ _ _ _ c.loop-turn.invariant c.in_default.ensures
 
 pub grouped-part-requires-in-loop-turn : goal.grouped-part-requires-in-loop-turn
 grouped-part-requires-in-loop-turn t c =
     let fewer = accept_takes _ _ _ _ c.in-Some.ensures.1 in
-    (omega (arith, c.loop-turn.invariant.shorter, rank_below c.in-Some.level), tt)
+    (omega (arith, c.loop-turn.invariant.shorter, rank_below c.in-Some.precedence), tt)
 
 pub grouped-returns-in_err-right-clause-reads : goal.grouped-returns-in_err-right-clause-reads
 grouped-returns-in_err-right-clause-reads t c =
     let p = err_from_is_err_and c.from_residual-in_err-right.result c.from_residual-in_err-right.ensures.1 in
     rw (p.1, p.2) (fails_on _ _ _ c.in_err-right.ensures.reads (λ left stops.
-    level_stops _ _ _ _ _ _ _ _ _ _ left c.loop-turn.invariant c.in-Some.ensures stops))
+    precedence_stops _ _ _ _ _ _ _ _ _ _ left c.loop-turn.invariant c.in-Some.ensures stops))
 
 pub grouped-loop-turn-preserved : goal.grouped-loop-turn-preserved
 grouped-loop-turn-preserved t c =
-    level_goes _ _ _ _ _ _ _ _ _ _ _ _ _ _ c.loop-turn.invariant c.in-Some.ensures c.in_ok-right.ensures.reads c.in_ok-right.ensures.shorter c.in_ok-left-2.ensures
+    precedence_goes _ _ _ _ _ _ _ _ _ _ _ _ _ _ c.loop-turn.invariant c.in-Some.ensures c.in_ok-right.ensures.reads c.in_ok-right.ensures.shorter c.in_ok-left-2.ensures
 
 pub grouped-returns-clause-reads : goal.grouped-returns-clause-reads
-grouped-returns-clause-reads t c = level_over _ _ _ _ _ _ _ c.loop-turn.invariant c.loop-turn-test.false
+grouped-returns-clause-reads t c = precedence_over _ _ _ _ _ _ _ c.loop-turn.invariant c.loop-turn-test.false
 
 -- ---- operand
 

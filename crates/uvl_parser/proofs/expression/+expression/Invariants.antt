@@ -1,7 +1,7 @@
--- Each call reads fewer tokens, or the same ones further down the levels.
+-- Each call reads fewer tokens, or the same ones further down the precedences.
 use Rattle.std.proofs.Common.{length, ◌+◌, ◌-◌, ◌*◌}
-use Rattle.uvl_parser.proofs.Parts.Expressions.Ranks.{part_rank}
-use Rattle.uvl_parser.proofs.Parts.Expressions.Tails.{Goes}
+use Rattle.uvl_parser.proofs.Expressions.Ranks.{part_rank}
+use Rattle.uvl_parser.proofs.Expressions.Tails.{Goes}
 use Rattle.uvl_parser.proofs.expression.+expression.Given as goal
 
 abbrev pub decreases-comparison : goal.decreases-comparison
@@ -17,7 +17,7 @@ abbrev pub decreases-parenthesized : goal.decreases-parenthesized
 decreases-parenthesized l = 16 * length l.tokens.now + 15
 
 abbrev pub decreases-part : goal.decreases-part
-decreases-part l = 16 * length l.tokens.now + part_rank l.level
+decreases-part l = 16 * length l.tokens.now + part_rank l.precedence
 
 abbrev pub decreases-primary : goal.decreases-primary
 decreases-primary l = 16 * length l.tokens.now

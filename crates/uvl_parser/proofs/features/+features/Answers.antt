@@ -1,7 +1,7 @@
 use Rattle.std.proofs.Common.{sym, arith, rules}
 use Rattle.std.proofs.lemmas.Result.{err_from_is_err_and}
 use Rattle.uvl_parser.proofs.Turns.{turns_begin, turn_taken, turn_failed, turn_ended, turns_over, fails_on}
-use Rattle.uvl_parser.proofs.Parts.Features.{feature_above}
+use Rattle.uvl_grammar.proofs.Parts.Features.{feature_above}
 use Rattle.uvl_parser.proofs.features.+features.Goals as goal
 
 pub more_groups-loop-turn-init : goal.more_groups-loop-turn-init

@@ -1,8 +1,8 @@
 -- The depth falls at each feature; within one depth a part comes below the whole.
 use Rattle.std.proofs.Common.{◌+◌, ◌*◌}
-use Rattle.uvl_parser.specs.Reading.{many, with_front}
-use Rattle.uvl_parser.specs.Tests.{stays}
-use Rattle.uvl_parser.specs.Readers.Features.{group_with, feature_at}
+use Rattle.uvl_grammar.specs.steps.Reading.{many, with_front}
+use Rattle.uvl_grammar.specs.steps.Tests.{stays}
+use Rattle.uvl_grammar.specs.steps.Features.{group_with, feature_at}
 use Rattle.uvl_parser.proofs.Turns.{TurnsLeft}
 use Rattle.uvl_parser.proofs.features.+features.Given as goal
 

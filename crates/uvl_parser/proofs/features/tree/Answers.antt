@@ -1,5 +1,5 @@
 use Rattle.std.proofs.Common.{add-one}
-use Rattle.uvl_parser.specs.Reading.{closed}
+use Rattle.uvl_grammar.specs.steps.Reading.{closed}
 use Rattle.uvl_parser.proofs.features.tree.Goals as goal
 
 pub returns : goal.returns

@@ -1,7 +1,7 @@
 use Rattle.std.proofs.Common.{chars, string_bytes}
-use Rattle.uvl_parser.specs.Reading.{many}
-use Rattle.uvl_parser.specs.Readers.Sections.{is_level_part, level_token}
-use Rattle.uvl_parser.specs.Readers.Levels.{texts_onto}
+use Rattle.uvl_grammar.specs.steps.Reading.{many}
+use Rattle.uvl_grammar.specs.steps.Sections.{is_level_part, level_token}
+use Rattle.uvl_parser.specs.steps.LanguageLevels.{texts_onto}
 use Rattle.uvl_parser.proofs.LevelTexts.{TextsLeft}
 use Rattle.uvl_parser.proofs.include_lines.more_tokens.Given as goal
 

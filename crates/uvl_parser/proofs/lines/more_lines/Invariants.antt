@@ -1,5 +1,5 @@
-use Rattle.uvl_parser.specs.Reading.{many, with_front}
-use Rattle.uvl_parser.specs.Tests.{stays}
+use Rattle.uvl_grammar.specs.steps.Reading.{many, with_front}
+use Rattle.uvl_grammar.specs.steps.Tests.{stays}
 use Rattle.uvl_parser.proofs.Turns.{TurnsLeft}
 use Rattle.uvl_parser.proofs.lines.more_lines.Given as goal
 

@@ -1,6 +1,6 @@
-use Rattle.uvl_parser.specs.Reading.{many, with_front}
-use Rattle.uvl_parser.specs.Tests.{is_symbol}
-use Rattle.uvl_parser.specs.Readers.Refs.{dot_name}
+use Rattle.uvl_grammar.specs.steps.Reading.{many, with_front}
+use Rattle.uvl_grammar.specs.steps.Tests.{is_symbol}
+use Rattle.uvl_grammar.specs.steps.Refs.{dot_name}
 use Rattle.uvl_lexer.specs.declared.token.Symbol.TheVariants.{Dot}
 use Rattle.uvl_parser.proofs.Turns.{TurnsLeft}
 use Rattle.uvl_parser.proofs.reference.dot_names.Given as goal

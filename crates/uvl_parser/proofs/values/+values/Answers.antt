@@ -1,8 +1,8 @@
 use Rattle.std.proofs.Common.{sym, arith, rules}
 use Rattle.std.proofs.lemmas.Result.{err_from_is_err_and}
-use Rattle.uvl_parser.specs.Reading.{bind, choose}
-use Rattle.uvl_parser.specs.Readers.Values.{value_with}
-use Rattle.uvl_parser.proofs.Parts.Values.{value_above}
+use Rattle.uvl_grammar.specs.steps.Reading.{bind, choose}
+use Rattle.uvl_grammar.specs.steps.Values.{value_with}
+use Rattle.uvl_grammar.proofs.Parts.Values.{value_above}
 use Rattle.uvl_parser.proofs.Turns.{turns_begin, turn_taken, turn_failed, turn_ended, turns_over, fails_on}
 use Rattle.uvl_parser.proofs.values.+values.Goals as goal
 

@@ -1,8 +1,8 @@
 -- The depth falls at each brace and bracket; within one depth a part comes below the whole.
 use Rattle.std.proofs.Common.{◌+◌, ◌*◌}
-use Rattle.uvl_parser.specs.Reading.{many, behind_comma, with_front}
-use Rattle.uvl_parser.specs.Tests.{is_symbol}
-use Rattle.uvl_parser.specs.Readers.Values.{value_at, attribute_at}
+use Rattle.uvl_grammar.specs.steps.Reading.{many, behind_comma, with_front}
+use Rattle.uvl_grammar.specs.steps.Tests.{is_symbol}
+use Rattle.uvl_grammar.specs.steps.Values.{value_at, attribute_at}
 use Rattle.uvl_lexer.specs.declared.token.Symbol.TheVariants.{Comma}
 use Rattle.uvl_parser.proofs.Turns.{TurnsLeft}
 use Rattle.uvl_parser.proofs.values.+values.Given as goal

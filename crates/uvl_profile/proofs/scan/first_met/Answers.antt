@@ -3,7 +3,7 @@ use Rattle.std.specs.Prelude.{length}
 use Rattle.std.proofs.Common.{refl, sym, subst, ◌∙◌, arith, below_more}
 use Rattle.std.proofs.lemmas.Option.{slice_get_read, slice_get_within}
 use Rattle.uvl_profile.specs.First.{NothingMet}
-use Rattle.uvl_profile.specs.Scan.{Follows}
+use Rattle.uvl_profile.specs.steps.Scan.{Follows}
 use Rattle.uvl_profile.proofs.Fronts.{in_front_more, met_at_one, none_at_one}
 use Rattle.uvl_profile.proofs.scan.first_met.Goals as goal
 

@@ -6,4 +6,4 @@ use Rattle.uvl_profile.proofs.scan.Scan.is_nested_too_deep.Goals as goal
 pub returns-then-deepens : goal.returns-then-deepens
 returns-then-deepens c =
     let nesting = c.args.self.now.nesting in
-    nested_there nesting _ c.args.token.now c.requires.levels nesting.counted (sym c.deepens.ensures ∙ c.if-deepens.true)
+    nested_there nesting _ c.args.token.now c.requires.scopes nesting.counted (sym c.deepens.ensures ∙ c.if-deepens.true)

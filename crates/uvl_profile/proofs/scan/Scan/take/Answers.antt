@@ -2,14 +2,14 @@
 use Rattle.std.specs.Prelude.{reverse}
 use Rattle.std.proofs.Common.{ap, arith}
 use Rattle.std.proofs.lemmas.List.{length-reverse}
-use Rattle.uvl_profile.specs.Scan.{levels_in, nodes_in}
-use Rattle.uvl_profile.proofs.Scanned.{levels_few, nodes_few, depth_few}
+use Rattle.uvl_profile.specs.steps.Scan.{indentations_in, nodes_in}
+use Rattle.uvl_profile.proofs.Scanned.{indentations_few, nodes_few, depth_few}
 use Rattle.uvl_profile.proofs.scan.Scan.take.Goals as goal
 
 pub behind-part-requires : goal.behind-part-requires
 behind-part-requires c =
     let front = c.args.front.now in
-    omega (arith, c.requires.room, levels_few (reverse front), length-reverse front, ap levels_in c.requires.follows.part)
+    omega (arith, c.requires.room, indentations_few (reverse front), length-reverse front, ap indentations_in c.requires.follows.part)
 
 pub nodes_behind-self-requires : goal.nodes_behind-self-requires
 nodes_behind-self-requires c =
@@ -20,4 +20,4 @@ pub take-requires : goal.take-requires
 take-requires c =
     let front = c.args.front.now in
     let nesting = c.args.self.now.nesting in
-    omega (arith, c.requires.room, length-reverse front, depth_few nesting (reverse front) c.requires.follows.levels nesting.counted)
+    omega (arith, c.requires.room, length-reverse front, depth_few nesting (reverse front) c.requires.follows.scopes nesting.counted)

@@ -1,0 +1,12 @@
+pub mod Naming
+pub mod Walking
+pub mod Inline
+pub mod Depths
+pub mod Sectioned
+pub mod Clearing
+pub mod ClearFiles
+pub mod Deep
+pub mod Shallow
+pub mod Members
+pub mod Nesting
+pub mod Nodes

@@ -1,0 +1,9 @@
+pub mod TokenKinds
+pub mod Readers
+pub mod Completing
+pub mod Opened
+pub mod Deeper
+pub mod Firsts
+pub mod Shaped
+pub mod Parts
+pub mod WholeFiles

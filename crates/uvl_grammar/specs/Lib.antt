@@ -1,0 +1,13 @@
+pub mod Tokens
+pub mod Shapes
+pub mod Refs
+pub mod Expressions
+pub mod Values
+pub mod Braces
+pub mod Groups
+pub mod Features
+pub mod Sections
+pub mod File
+pub mod Dead
+pub mod Law
+pub mod steps

@@ -1,0 +1,3 @@
+-- What the scan keeps of the tokens in front of a place.
+pub mod Depth
+pub mod Scan
