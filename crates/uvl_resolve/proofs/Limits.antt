@@ -21,7 +21,8 @@ use Rattle.uvl_resolve.specs.declared.rows.RowBuilder.{RowBuilder}
 use Rattle.uvl_resolve.specs.Built.{AreModelNames}
 use Rattle.uvl_model.specs.OptionalGroups.{IsMandatoryOrOptional}
 use Rattle.uvl_resolve.specs.TreeOf.{IsTree, AreGroups, AreMembers, bounds_of}
-use Rattle.uvl_resolve.specs.Walk.{AddsTree}
+use Rattle.uvl_base.specs.Limits.{most_depth}
+use Rattle.uvl_resolve.specs.steps.Walk.{AddsTree}
 use Rattle.uvl_resolve.proofs.Everywhere.{all_front, all_rest}
 use Rattle.uvl_resolve.proofs.Existing.{depth_at, depth_in}
 
@@ -173,7 +174,7 @@ whole old new line names features groups h = record {
 }
 
 -- such rows are those of a model
-pub whole_sound : (new : RowBuilder) (line : Feature) → IsWhole new line → AreModelNames new.names → depth_of line ≤ 64 → EachGroupHasMembers line
+pub whole_sound : (new : RowBuilder) (line : Feature) → IsWhole new line → AreModelNames new.names → depth_of line ≤ most_depth → EachGroupHasMembers line
     → IsSound (record { features = new.features; groups = new.groups })
 whole_sound new line h names shallow some =
     let fit : AreModelNames (names_of h.tree) = subst AreModelNames h.names names in
@@ -182,7 +183,7 @@ whole_sound new line h names shallow some =
       spelled = record { features = h.features; groups = h.groups };
       within = record {
         few = fit.few;
-        shallow = subst (λ (n : ℕ). n ≤ 64) (sym (depth_same line h.tree h.says)) shallow;
+        shallow = subst (λ (n : ℕ). n ≤ most_depth) (sym (depth_same line h.tree h.says)) shallow;
         distinct = fit.distinct;
         bounded = tree_bounded line h.tree h.says some;
       };

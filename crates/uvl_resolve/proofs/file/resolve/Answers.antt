@@ -1,6 +1,7 @@
 -- The rows of the whole walk are those of a model, and where the walk stops the file has a cause.
 use Rattle.std.proofs.Common.{rules, ◌≡◌, ◌++◌, [], List, ℕ, Option, Err, sym, ap, subst}
 use Rattle.std.specs.Prelude.{IfSome, ◌≤◌}
+use Rattle.uvl_base.specs.Limits.{most_depth}
 use Rattle.uvl_ast.specs.Depth.{depth_of}
 use Rattle.uvl_ast.specs.Members.{EachGroupHasMembers}
 use Rattle.uvl_ast.specs.declared.feature.Feature.{Feature}
@@ -25,7 +26,7 @@ new-requires-clause-sound c =
     let root = c.in-Some.root in
     let h = whole c.new-rows.result rows root c.new-rows.ensures.names c.new-rows.ensures.features c.new-rows.ensures.groups c.in_ok-add_feature.ensures.added in
     whole_sound rows root h c.in_ok-add_feature.ensures.so_far.names
-    (subst (λ (o : Option Feature). IfSome o (λ line. depth_of line ≤ 64)) c.in-Some.is c.requires.shallow)
+    (subst (λ (o : Option Feature). IfSome o (λ line. depth_of line ≤ most_depth)) c.in-Some.is c.requires.shallow)
     (subst (λ (o : Option Feature). IfSome o EachGroupHasMembers) c.in-Some.is c.requires.members)
 
 pub returns-clause-groups : goal.returns-clause-groups
