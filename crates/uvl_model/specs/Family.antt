@@ -1,5 +1,5 @@
--- Families of sets of features, and whether some set of a family passes a test. A set is a list of names, of which only
--- membership counts.
+-- Families of sets of features, and whether some set of a family passes a test. A set is a list of names, of which
+-- only membership counts.
 use Rattle.std.specs.Prelude.{◌≡◌, ℕ, Bool, true, not, ◌&&◌, List, [], ◌∷◌, ◌++◌, map}
 use Rattle.std.specs.List.{list_any, list_all}
 use Rattle.uvl_model.specs.Product.{has}

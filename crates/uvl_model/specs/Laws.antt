@@ -18,17 +18,19 @@ RowsGiveProducts = (tree : Tree) (rows : Rows) → Spells tree rows → Products
 abbrev pub RowsGiveNames : Type 0
 RowsGiveNames = (tree : Tree) (rows : Rows) → Spells tree rows → feature_names rows ≡ names_of tree
 
--- the products of rows, and those of a tree, are a family of sets
+-- the products of rows are a family of sets
 abbrev pub ProductsAreSets : Type 0
 ProductsAreSets = (rows : Rows) → IsOfSets (Products rows)
 
+-- and so are those of a tree
 abbrev pub ProductsOfTreesAreSets : Type 0
 ProductsOfTreesAreSets = (tree : Tree) → IsOfSets (ProductsOfTree tree)
 
 -- the marked features of sound rows are a product exactly where the root is marked and each group holds
 abbrev pub RowsCheckProducts : Type 0
 RowsCheckProducts =
-    (rows : Rows) (marks : List Bool) → IsSound rows → (Products rows).contains (chosen_names rows marks) ≡ rows_hold rows marks
+    (rows : Rows) (marks : List Bool) → IsSound rows →
+    (Products rows).contains (chosen_names rows marks) ≡ rows_hold rows marks
 
 -- the names that marks mark are a product where each set is one for which the marks stand
 abbrev pub MarksGiveProducts : Type 0
@@ -45,9 +47,11 @@ SublistsTellSets =
 -- a family of sets is void exactly where no list of names whatever is in it
 abbrev pub VoidFamiliesHaveNoSet : Type 0
 VoidFamiliesHaveNoSet =
-    (family : Family) → IsOfSets family → (is_void family ≡ true) ↔ ((set : List (List ℕ)) → family.contains set ≡ false)
+    (family : Family) → IsOfSets family →
+    (is_void family ≡ true) ↔ ((set : List (List ℕ)) → family.contains set ≡ false)
 
 -- and it is so already where no marks of its names give a set of it
 abbrev pub MarksTellVoidFamilies : Type 0
 MarksTellVoidFamilies =
-    (family : Family) → ((marks : List Bool) → family.contains (marked family.names marks) ≡ false) → is_void family ≡ true
+    (family : Family) → ((marks : List Bool) → family.contains (marked family.names marks) ≡ false) →
+    is_void family ≡ true

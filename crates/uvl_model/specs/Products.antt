@@ -12,8 +12,8 @@ use Rattle.uvl_model.specs.Tree.{Tree, names_of}
 abbrev pub ProductsOfTree : Tree → Family
 ProductsOfTree tree = record { names = names_of tree; contains = is_product tree }
 
--- A set is a product of rows: it has only names of the features, it has the root, and each group holds: of the members of one
--- whose parent is in the set from lo to hi are, and of any other none.
+-- A set is a product of rows: it has only names of the features, it has the root, and each group holds: of the
+-- members of one whose parent is in the set from lo to hi are in it, and of any other none.
 unfoldable pub is_product_of : Rows → List (List ℕ) → Bool
 is_product_of rows set = list_all (has (feature_names rows)) set && rows_hold rows (map (has set) (feature_names rows))
 
