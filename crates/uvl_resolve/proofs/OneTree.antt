@@ -64,7 +64,7 @@ one_tree_of_file file first second h k =
 -- and so one model
 pub one_model_of_file : (file : File) (first second : Rows) → Flat file first → Flat file second → first ≡ second
 one_model_of_file file first second h k =
-    let tree = one_tree_of_file file h.tree k.tree h.of_file k.of_file in
+    let tree = one_tree_of_file file h.built.tree k.built.tree h.built.of_file k.built.of_file in
     let features = h.spelled.features ∙ ap (feature_rows None 0) tree ∙ sym k.spelled.features in
     let groups = h.spelled.groups ∙ ap (group_rows 0) tree ∙ sym k.spelled.groups in
     λ i. record { features = features i; groups = groups i }

@@ -2,11 +2,9 @@
 use Rattle.uvl_ast.specs.declared.file.File.{File}
 use Rattle.uvl_model.specs.Rows.{Rows}
 use Rattle.uvl_model.specs.Spelling.{Spells}
-use Rattle.uvl_model.specs.Tree.{Tree}
-use Rattle.uvl_resolve.specs.TreeOf.{IsTreeOf}
+use Rattle.uvl_resolve.specs.Built.{IsBuilt}
 
--- the rows are the tree of the file, in document order
+-- the file is the text of a tree that a model may have, and the rows are this tree in document order
 pub record Flat (file : File) (rows : Rows) : Type 0 where
-  pub tree : Tree
-  pub of_file : IsTreeOf file tree
-  pub spelled : Spells tree rows
+  pub built : IsBuilt file
+  pub spelled : Spells built.tree rows

@@ -6,4 +6,5 @@ use Rattle.uvl_resolve.proofs.laws.flat_keeps_products.Goals as goal
 
 pub returns : goal.returns
 returns c = λ file rows tree flat of_file.
-    c.rows_give_products.ensures flat.tree rows flat.spelled ∙ ap ProductsOfTree (one_tree_of_file file flat.tree tree flat.of_file of_file)
+    let built = flat.built in
+    c.rows_give_products.ensures built.tree rows flat.spelled ∙ ap ProductsOfTree (one_tree_of_file file built.tree tree built.of_file of_file)
