@@ -1,23 +1,22 @@
--- What the outline of a tree tells of its products.
+-- What the outline of a model tells of its products.
 use Rattle.std.specs.Prelude.{◌≡◌, ℕ, Bool, List}
 use Rattle.dd_store.specs.Follow.{assignment_of}
-use Rattle.uvl_model.specs.Names.{marked}
-use Rattle.uvl_model.specs.Product.{is_product}
+use Rattle.uvl_model.specs.Names.{chosen_names}
+use Rattle.uvl_model.specs.OptionalGroups.{GroupsAreMandatoryOrOptional}
+use Rattle.uvl_model.specs.Products.{Products}
 use Rattle.uvl_model.specs.Rows.{Rows}
 use Rattle.uvl_model.specs.Sound.{IsSound}
-use Rattle.uvl_model.specs.Spelling.{Spells}
-use Rattle.uvl_model.specs.Tree.{Tree, names_of}
+use Rattle.uvl_compile.specs.declared.outline.Entry.{Entry}
 use Rattle.uvl_compile.specs.Choice.{is_allowed}
-use Rattle.uvl_compile.specs.Chosen.{chosen_under}
-use Rattle.uvl_compile.specs.Outline.{outline_of}
-use Rattle.uvl_model.specs.OptionalGroups.{GroupsAreMandatoryOrOptional}
+use Rattle.uvl_compile.specs.Chosen.{chosen_features}
+use Rattle.uvl_compile.specs.Outline.{IsOutlineOf}
 
 -- where all groups are mandatory or optional, the chosen features are a product exactly where the outline allows them
 abbrev pub OutlineTellsProducts : Type 0
 OutlineTellsProducts =
-    (tree : Tree) (rows : Rows) (a : ℕ → Bool) → IsSound rows → GroupsAreMandatoryOrOptional rows → Spells tree rows →
-    is_product tree (chosen_under a tree) ≡ is_allowed (outline_of tree) 0 a 0
+    (rows : Rows) (entries : List Entry) (a : ℕ → Bool) → IsSound rows → GroupsAreMandatoryOrOptional rows → IsOutlineOf rows entries →
+    (Products rows).contains (chosen_features a rows) ≡ is_allowed entries 0 a 0
 
 -- a row of marks chooses the features that it marks
 abbrev pub MarksChooseFeatures : Type 0
-MarksChooseFeatures = (tree : Tree) (marks : List Bool) → chosen_under (assignment_of marks) tree ≡ marked (names_of tree) marks
+MarksChooseFeatures = (rows : Rows) (marks : List Bool) → chosen_features (assignment_of marks) rows ≡ chosen_names rows marks

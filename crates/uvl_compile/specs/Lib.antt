@@ -4,4 +4,5 @@ pub mod Chosen
 pub mod Laws
 pub mod Entering
 pub mod Held
+pub mod Nodes
 pub mod Row

@@ -1,5 +1,7 @@
 -- The outline of a tree: its features in document order, each with its depth and whether it is mandatory.
-use Rattle.std.specs.Prelude.{ℕ, ◌+◌, Bool, true, nat_lt, List, [], ◌∷◌, ◌++◌}
+use Rattle.std.specs.Prelude.{◌≡◌, ℕ, ◌+◌, Bool, true, nat_lt, List, [], ◌∷◌, ◌++◌}
+use Rattle.uvl_model.specs.Rows.{Rows}
+use Rattle.uvl_model.specs.Spelling.{Spells}
 use Rattle.uvl_model.specs.Tree.{Tree, Groups, Members, feature, no_groups, group, no_members, member}
 use Rattle.uvl_compile.specs.declared.outline.Entry.{Entry}
 
@@ -21,3 +23,7 @@ abbrev mutual
 -- the entries of a whole tree, whose root is mandatory
 abbrev pub outline_of : Tree → List Entry
 outline_of tree = entries_of 0 true tree
+
+-- the entries are the outline of a model's rows: that of the tree that they spell
+abbrev pub IsOutlineOf : Rows → List Entry → Type 0
+IsOutlineOf rows entries = (tree : Tree) → Spells tree rows → entries ≡ outline_of tree

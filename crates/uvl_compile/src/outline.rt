@@ -1,9 +1,8 @@
 //! The outline of a model: for each feature its depth, and whether it is mandatory.
 ghost use Rattle.std.specs.Prelude.{◌≡◌, ◌-◌, ◌^◌, length, IfOk};
-ghost use Rattle.uvl_model.specs.Spelling.{Spells};
-ghost use Rattle.uvl_model.specs.Tree.{Tree};
+ghost use Rattle.uvl_base.specs.Limits.{most_depth};
 ghost use Rattle.uvl_compile.specs.Entering.{IsWithin, with_entry, with_group, AreShallow};
-ghost use Rattle.uvl_compile.specs.Outline.{outline_of};
+ghost use Rattle.uvl_compile.specs.Outline.{IsOutlineOf};
 
 use dd_store::OutOfMemory;
 use std::alloc::Global;
@@ -27,9 +26,9 @@ const ROOT: Entry = Entry {
 /// The outline of a model, in one pass over its groups: a group stands behind the one that has its
 /// parent.
 pub(crate) fn outline(alloc: Global, model: &Model) -> Result<Vec<Entry>, OutOfMemory>
-    ensures outline { IfOk result (λ entries. (tree : Tree) → Spells tree model.now → entries.items ≡ outline_of tree) }
+    ensures outline { IfOk result (λ entries. IsOutlineOf model.now entries.items) }
     ensures count { IfOk result (λ entries. length entries.items ≡ length model.now.features) }
-    ensures shallow { IfOk result (λ entries. AreShallow 63 entries.items) }
+    ensures shallow { IfOk result (λ entries. AreShallow (most_depth - 1) entries.items) }
 {
     // A tree has as many features as its rows: a fact for the proof.
     rows_give_names();

@@ -1,13 +1,13 @@
 //! The diagram of a model's products, made from the last feature to the first.
-ghost use Rattle.std.specs.Prelude.{◌≡◌, ℕ, ◌+◌, ◌*◌, ◌<◌, ◌≤◌, Bool, [], length, IfOk, OnErr};
+ghost use Rattle.std.specs.Prelude.{◌≡◌, ℕ, ◌+◌, ◌-◌, ◌*◌, ◌<◌, ◌≤◌, Bool, [], length, IfOk, OnErr};
 ghost use Rattle.dd_store.specs.Changes.{KeepsHandles, KeepsRows, KeepsTops, KeepsValues, GainsHandle};
 ghost use Rattle.dd_store.specs.Table.{IsSound, node_count, value_of};
-ghost use Rattle.uvl_model.specs.Product.{is_product};
-ghost use Rattle.uvl_model.specs.Spelling.{Spells};
-ghost use Rattle.uvl_model.specs.Tree.{Tree};
-ghost use Rattle.uvl_compile.specs.Chosen.{chosen_under};
+ghost use Rattle.uvl_base.specs.Limits.{most_features, most_depth};
+ghost use Rattle.uvl_model.specs.Products.{Products};
+ghost use Rattle.uvl_compile.specs.Chosen.{chosen_features};
 ghost use Rattle.uvl_compile.specs.Entering.{AreShallow};
 ghost use Rattle.uvl_compile.specs.Held.{HoldsMore, Grows};
+ghost use Rattle.uvl_compile.specs.Nodes.{nodes_per_feature, most_nodes_of};
 ghost use Rattle.uvl_compile.specs.Row.{IsAscending, IsRow};
 ghost use Rattle.uvl_model.specs.OptionalGroups.{GroupsAreMandatoryOrOptional};
 
@@ -17,21 +17,25 @@ use crate::outline::{Entry, outline};
 use crate::row::feature_row;
 use dd_store::{Handle, OutOfMemory, Store};
 use std::alloc::Global;
+use uvl_base::MOST_DEPTH;
 use uvl_model::Model;
+
+/// How many nodes the diagram of a model's products wants for each feature at most: one for each
+/// number of features above it that may be chosen.
+pub const NODES_PER_FEATURE: usize = MOST_DEPTH;
 
 /// A handle whose value for an assignment is whether the features with a true variable are a
 /// product of the model. Variable k stands for feature k, and other variables have no say.
 ///
-/// It asks for at most 64 nodes for each feature, one for each number of features on the path from
-/// the root that may be chosen.
+/// It asks for at most `NODES_PER_FEATURE` nodes for each feature.
 pub fn compile(alloc: Global, store: &mut Store, model: &Model) -> Result<Handle, OutOfMemory>
     requires groups { GroupsAreMandatoryOrOptional model.now }
     requires variables { IsAscending store.old.order (length model.now.features) }
-    requires room { node_count store.old + 64 * length model.now.features ≤ store.old.budget }
+    requires room { node_count store.old + most_nodes_of model.now ≤ store.old.budget }
 
     // The answered handle.
-    ensures products { IfOk result (λ h. (tree : Tree) (a : ℕ → Bool) → Spells tree model.now
-        → value_of store.new h a ≡ is_product tree (chosen_under a tree)) }
+    ensures products { IfOk result (λ h. (a : ℕ → Bool) →
+        value_of store.new h a ≡ (Products model.now).contains (chosen_features a model.now)) }
 
     // The live handles, and their values.
     ensures gained { IfOk result (GainsHandle store.old store.new) }
@@ -41,7 +45,7 @@ pub fn compile(alloc: Global, store: &mut Store, model: &Model) -> Result<Handle
 
     // The nodes.
     ensures stay { KeepsRows store.old store.new }
-    ensures few_new { node_count store.new ≤ node_count store.old + 64 * length model.now.features }
+    ensures few_new { node_count store.new ≤ node_count store.old + most_nodes_of model.now }
     ensures order { store.new.order ≡ store.old.order }
     ensures budget { store.new.budget ≡ store.old.budget }
     ensures sound { IsSound store.new }
@@ -64,14 +68,14 @@ fn first_row(
     store: &mut Store,
     entries: &[Entry],
 ) -> Result<Vec<Handle>, OutOfMemory>
-    requires few { length entries.now ≤ 2048 }
-    requires shallow { AreShallow 63 entries.now }
+    requires few { length entries.now ≤ most_features }
+    requires shallow { AreShallow (most_depth - 1) entries.now }
     requires variables { IsAscending store.old.order (length entries.now) }
-    requires room { node_count store.old + 64 * length entries.now ≤ store.old.budget }
+    requires room { node_count store.old + nodes_per_feature * length entries.now ≤ store.old.budget }
     ensures row { IfOk result (λ row. IsRow store.new 0 entries.now row.items) }
     ensures held { IfOk result (λ row. HoldsMore store.old store.new row.items) }
     ensures refused { OnErr result (KeepsHandles store.old store.new) }
-    ensures grows { Grows store.old store.new (64 * length entries.now) }
+    ensures grows { Grows store.old store.new (nodes_per_feature * length entries.now) }
     ensures sound { IsSound store.new }
 {
     let mut row = last_row(alloc, store)?;

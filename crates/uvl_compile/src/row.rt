@@ -2,9 +2,11 @@
 ghost use Rattle.std.specs.Prelude.{◌≡◌, ℕ, ◌+◌, ◌-◌, ◌<◌, ◌≤◌, ◌^◌, Bool, min, [], length, drop, slice_index, IfOk, OnOk, OnErr, if◌then◌else◌};
 ghost use Rattle.dd_store.specs.Table.{IsSound, IsLive, IsVariable, IsAbove, node_count, level_of, top_of, value_of};
 ghost use Rattle.dd_store.specs.Changes.{KeepsHandles, GainsHandle};
+ghost use Rattle.uvl_base.specs.Limits.{most_features, most_depth};
 ghost use Rattle.uvl_compile.specs.Choice.{is_allowed};
 ghost use Rattle.uvl_compile.specs.Entering.{entry_at};
 ghost use Rattle.uvl_compile.specs.Held.{HoldsMore, Grows};
+ghost use Rattle.uvl_compile.specs.Nodes.{nodes_per_feature};
 ghost use Rattle.uvl_compile.specs.Row.{IsAscending, IsRow, IsPartOfRow, IsNo};
 
 use crate::handles::{push_within_capacity, release_all};
@@ -21,15 +23,15 @@ pub(crate) fn feature_row(
     below: &[Handle],
 ) -> Result<Vec<Handle>, OutOfMemory>
     requires feature { feature < length entries.now }
-    requires few { length entries.now ≤ 2048 }
-    requires shallow { (entry_at entries.now feature).depth < 64 }
+    requires few { length entries.now ≤ most_features }
+    requires shallow { (entry_at entries.now feature).depth < most_depth }
     requires variables { IsAscending store.old.order (length entries.now) }
     requires below { IsRow store.old (feature + 1) (drop (feature + 1) entries.now) below.now }
-    requires room { node_count store.old + 64 ≤ store.old.budget }
+    requires room { node_count store.old + nodes_per_feature ≤ store.old.budget }
     ensures row { IfOk result (λ row. IsRow store.new feature (drop feature entries.now) row.items) }
     ensures held { IfOk result (λ row. HoldsMore store.old store.new row.items) }
     ensures refused { OnErr result (KeepsHandles store.old store.new) }
-    ensures grows { Grows store.old store.new 64 }
+    ensures grows { Grows store.old store.new nodes_per_feature }
     ensures sound { IsSound store.new }
 {
     let no = store.constant(false)?;
@@ -56,17 +58,17 @@ fn fill(
     row: &mut Vec<Handle>,
 ) -> Result<(), OutOfMemory>
     requires feature { feature < length entries.now }
-    requires few { length entries.now ≤ 2048 }
-    requires shallow { (entry_at entries.now feature).depth < 64 }
+    requires few { length entries.now ≤ most_features }
+    requires shallow { (entry_at entries.now feature).depth < most_depth }
     requires variables { IsAscending store.old.order (length entries.now) }
     requires below { IsRow store.old (feature + 1) (drop (feature + 1) entries.now) below.now }
     requires no { IsNo store.old feature no.now }
-    requires room { node_count store.old + 64 ≤ store.old.budget }
+    requires room { node_count store.old + nodes_per_feature ≤ store.old.budget }
     requires empty { row.old.items ≡ [] }
     ensures part { OnOk result (IsPartOfRow store.new feature (drop feature entries.now) row.new.items) }
     ensures places { OnOk result (length row.new.items ≡ (entry_at entries.now feature).depth + 1) }
     ensures held { HoldsMore store.old store.new row.new.items }
-    ensures grows { Grows store.old store.new 64 }
+    ensures grows { Grows store.old store.new nodes_per_feature }
     ensures sound { IsSound store.new }
 {
     // The store is sound also where nothing is done.
@@ -90,9 +92,9 @@ fn choice(
     no: &Handle,
 ) -> Result<Handle, OutOfMemory>
     requires feature { feature < length entries.now }
-    requires few { length entries.now ≤ 2048 }
+    requires few { length entries.now ≤ most_features }
     requires chosen { chosen ≤ (entry_at entries.now feature).depth }
-    requires shallow { (entry_at entries.now feature).depth < 64 }
+    requires shallow { (entry_at entries.now feature).depth < most_depth }
     requires variable { IsVariable store.old feature }
     requires below { IsRow store.old (feature + 1) (drop (feature + 1) entries.now) below.now }
     requires no { IsNo store.old feature no.now }

@@ -1,6 +1,7 @@
 //! The variables of a model's features in a new table.
 ghost use Rattle.std.specs.Prelude.{◌≡◌, ◌+◌, ◌≤◌, ◌<◌, ℕ, [], length, OnOk};
 ghost use Rattle.dd_store.specs.Table.{level_of, node_count};
+ghost use Rattle.uvl_base.specs.Limits.{most_features};
 ghost use Rattle.uvl_compile.specs.Row.{IsAscending};
 
 use dd_store::{AddRefusal, OutOfMemory, Store};
@@ -10,7 +11,7 @@ use std::alloc::AllocError;
 /// order of the features. Where memory is wanting some may have been added.
 pub fn add_variables(store: &mut Store, count: usize) -> Result<(), OutOfMemory>
     requires none { store.old.order ≡ [] }
-    requires few { count ≤ 2048 }
+    requires few { count ≤ most_features }
     ensures count { OnOk result (length store.new.order ≡ count) }
     ensures ascending { OnOk result (IsAscending store.new.order count) }
     ensures nodes { OnOk result (node_count store.new ≡ node_count store.old) }

@@ -1,19 +1,24 @@
--- A set is a product of a tree exactly where the root and the groups' rows hold under its marks.
+-- The products of rows are those of each tree that the rows spell: a set is one where the root and the groups' rows hold under
+-- its marks.
 use Rattle.std.proofs.Common.{◌≡◌, ℕ, ◌+◌, Bool, true, false, ◌&&◌, List, ◌∷◌, map, Option, None, Some, refl, sym, ap, ◌∙◌, subst, if◌then◌else◌}
 use Rattle.std.specs.List.{list_all}
+use Rattle.std.proofs.Math.Path.{fun_ext}
+use Rattle.std.proofs.lemmas.Bool.{and_parts}
 use Rattle.std.proofs.lemmas.List.{map-append}
 use Rattle.uvl_model.specs.declared.rows.FeatureNo.{FeatureNo}
 use Rattle.uvl_model.specs.declared.rows.FeatureRow.{FeatureRow}
-use Rattle.uvl_model.specs.Check.{is_marked, group_holds}
+use Rattle.uvl_model.specs.Check.{is_marked, rows_hold}
+use Rattle.uvl_model.specs.Family.{Family, IsTestOfSets, IsOfSets}
 use Rattle.uvl_model.specs.Marks.{StandFor}
 use Rattle.uvl_model.specs.Names.{feature_names, chosen_names}
 use Rattle.uvl_model.specs.Product.{has, fits, is_absent, is_product}
+use Rattle.uvl_model.specs.Products.{Products, ProductsOfTree, is_product_of}
 use Rattle.uvl_model.specs.Rows.{Rows}
 use Rattle.uvl_model.specs.Sound.{IsSound, AreDistinct}
 use Rattle.uvl_model.specs.Spelling.{Spells, numbered, size_of, size_of_members, feature_rows, feature_rows_of_groups, feature_rows_of_members, group_rows}
 use Rattle.uvl_model.specs.Tree.{Tree, Groups, Members, feature, no_groups, group, no_members, member, top_name, names_of, names_of_groups, names_of_members}
 use Rattle.uvl_model.proofs.Fitting.{tree_holds}
-use Rattle.uvl_model.proofs.Marks.{AgreeFrom, marks_agree, given_marks_agree, stand_agree, agree_same}
+use Rattle.uvl_model.proofs.Marks.{AgreeFrom, marks_agree, given_marks_agree, stand_agree}
 use Rattle.uvl_model.proofs.Membership.{marked_within, all_have-same}
 
 mutual
@@ -46,45 +51,59 @@ top_agrees : (marks : List Bool) (set : List (List ℕ)) (tree : Tree) → Agree
 top_agrees marks set (feature name below) h = h.0
 
 -- a product has only features of the rows, has the root, and each group holds
-pub product_by_rows : (marks : List Bool) (set : List (List ℕ)) (tree : Tree) (rows : Rows) → Spells tree rows → AgreeFrom marks set 0 (feature_names rows)
-    → is_product tree set ≡ (list_all (has (feature_names rows)) set && (is_marked marks (numbered 0) && list_all (group_holds marks) rows.groups))
+product_by_rows : (marks : List Bool) (set : List (List ℕ)) (tree : Tree) (rows : Rows) → Spells tree rows → AgreeFrom marks set 0 (feature_names rows)
+    → is_product tree set ≡ (list_all (has (feature_names rows)) set && rows_hold rows marks)
 product_by_rows marks set tree rows spelled agree =
     let names = spelled_names tree rows spelled in
     let here = subst (λ (ns : List (List ℕ)). AgreeFrom marks set 0 ns) names agree in
     rw (names, spelled.groups)
     (root_case (list_all (has (names_of tree)) set) (has set (top_name tree)) _ (fits tree set) (is_absent tree set) _ (top_agrees marks set tree here) (tree_holds marks set tree 0 here))
 
--- the chosen features are a product of each tree that sound rows spell exactly where the check says so
-pub product_of_chosen : (rows : Rows) (marks : List Bool) → IsSound rows → (tree : Tree) → Spells tree rows
-    → (is_marked marks (numbered 0) && list_all (group_holds marks) rows.groups) ≡ is_product tree (chosen_names rows marks)
-product_of_chosen rows marks sound tree spelled =
+-- the products of rows are those of the tree that they spell
+pub spelled_products : (tree : Tree) (rows : Rows) → Spells tree rows → Products rows ≡ ProductsOfTree tree
+unfolding is_product_of
+spelled_products tree rows spelled =
+    let names = spelled_names tree rows spelled in
+    let sets : is_product_of rows ≡ is_product tree =
+    fun_ext (λ set. sym (product_by_rows (map (has set) (feature_names rows)) set tree rows spelled (given_marks_agree set (feature_names rows)))) in
+    λ i. record { names = names i; contains = sets i }
+
+-- marks that agree with a set tell whether it is a product
+product_by_marks : (rows : Rows) (marks : List Bool) (set : List (List ℕ)) → IsSound rows → AgreeFrom marks set 0 (feature_names rows)
+    → is_product_of rows set ≡ (list_all (has (feature_names rows)) set && rows_hold rows marks)
+product_by_marks rows marks set sound agree =
+    ap (λ (family : Family). family.contains set) (spelled_products sound.tree rows sound.spelled) ∙ product_by_rows marks set sound.tree rows sound.spelled agree
+
+-- the chosen features are a product exactly where the check of the rows says so
+pub product_of_chosen : (rows : Rows) (marks : List Bool) → IsSound rows → is_product_of rows (chosen_names rows marks) ≡ rows_hold rows marks
+product_of_chosen rows marks sound =
     let distinct = subst AreDistinct (sym (spelled_names sound.tree rows sound.spelled)) sound.within.distinct in
     let agree = marks_agree (feature_names rows) marks distinct in
-    sym (product_by_rows marks (chosen_names rows marks) tree rows spelled agree ∙ rw (marked_within (feature_names rows) marks) refl)
+    product_by_marks rows marks (chosen_names rows marks) sound agree ∙ rw (marked_within (feature_names rows) marks) refl
 
 -- and so is each set that the marks stand for
-pub product_of_set : (rows : Rows) (marks : List Bool) (tree : Tree) (set : List (List ℕ)) → Spells tree rows → StandFor (names_of tree) marks set
-    → (is_marked marks (numbered 0) && list_all (group_holds marks) rows.groups) ≡ is_product tree set
-product_of_set rows marks tree set spelled stand =
-    let names = spelled_names tree rows spelled in
-    let agree = subst (λ (ns : List (List ℕ)). AgreeFrom marks set 0 ns) (sym names) (stand_agree (names_of tree) marks set stand) in
-    let within : list_all (has (feature_names rows)) set ≡ true = ap (λ (ns : List (List ℕ)). list_all (has ns) set) names ∙ stand.named in
-    sym (product_by_rows marks set tree rows spelled agree ∙ rw within refl)
+pub product_of_set : (rows : Rows) (marks : List Bool) (set : List (List ℕ)) → IsSound rows → StandFor (feature_names rows) marks set
+    → is_product_of rows set ≡ rows_hold rows marks
+product_of_set rows marks set sound stand =
+    product_by_marks rows marks set sound (stand_agree (feature_names rows) marks set stand) ∙ rw (stand.named) refl
 
--- trees that one list of rows spells have the same products
-pub one_family : (first second : Tree) (rows : Rows) → Spells first rows → Spells second rows → (set : List (List ℕ)) → is_product first set ≡ is_product second set
-one_family first second rows one two set =
-    let agree = given_marks_agree set (feature_names rows) in
-    let marks = map (has set) (feature_names rows) in
-    product_by_rows marks set first rows one agree ∙ sym (product_by_rows marks set second rows two agree)
+-- sets with the same members are products alike
+same_products : (rows : Rows) → IsTestOfSets (is_product_of rows)
+unfolding is_product_of
+same_products rows first second same =
+    let marks = ap (λ (test : List ℕ → Bool). map test (feature_names rows)) (fun_ext same) in
+    rw (all_have-same (feature_names rows) first second same, marks) refl
 
--- sets with the same members are products of a tree alike
-pub same_products : (tree : Tree) (first second : List (List ℕ)) → ((name : List ℕ) → has first name ≡ has second name) → is_product tree first ≡ is_product tree second
-same_products tree first second same =
+-- the products of rows have only names of the features
+named_products : (rows : Rows) (set : List (List ℕ)) → is_product_of rows set ≡ true → list_all (has (feature_names rows)) set ≡ true
+unfolding is_product_of
+named_products rows set product = (and_parts (list_all (has (feature_names rows)) set) _ product).0
+
+pub products-IsOfSets : (rows : Rows) → IsOfSets (Products rows)
+products-IsOfSets rows = record { by_members = same_products rows; named = named_products rows }
+
+-- each tree is spelled by some rows
+pub tree_products-IsOfSets : (tree : Tree) → IsOfSets (ProductsOfTree tree)
+tree_products-IsOfSets tree =
     let rows : Rows = record { features = feature_rows None 0 tree; groups = group_rows 0 tree } in
-    let spelled : Spells tree rows = record { features = refl; groups = refl } in
-    let marks = map (has first) (feature_names rows) in
-    let agree = given_marks_agree first (feature_names rows) in
-    product_by_rows marks first tree rows spelled agree
-    ∙ ap (λ (b : Bool). b && (is_marked marks (numbered 0) && list_all (group_holds marks) rows.groups)) (all_have-same (feature_names rows) first second same)
-    ∙ sym (product_by_rows marks second tree rows spelled (agree_same marks first second 0 (feature_names rows) same agree))
+    subst IsOfSets (spelled_products tree rows (record { features = refl; groups = refl })) (products-IsOfSets rows)

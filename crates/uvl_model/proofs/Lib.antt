@@ -7,4 +7,3 @@ pub mod NameKeys
 pub mod NoProduct
 pub mod Places
 pub mod ThinModel
-pub mod TreeNames

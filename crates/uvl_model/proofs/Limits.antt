@@ -1,6 +1,7 @@
 -- How many features sound rows have.
 use Rattle.std.proofs.Common.{◌≡◌, ◌<◌, ◌≤◌, ℕ, length, sym, ap, ◌∙◌, subst, arith}
 use Rattle.std.proofs.lemmas.List.{length-map}
+use Rattle.uvl_base.specs.Limits.{most_features}
 use Rattle.uvl_model.specs.Rows.{Rows}
 use Rattle.uvl_model.specs.Sound.{IsSound}
 use Rattle.uvl_model.specs.Spelling.{size_of}
@@ -18,5 +19,5 @@ has_root (feature name below) = omega arith
 pub features-some : (rows : Rows) → IsSound rows → 0 < length rows.features
 features-some rows sound = subst (λ (n : ℕ). 0 < n) (size_is rows sound) (has_root sound.tree)
 
-pub features-few : (rows : Rows) → IsSound rows → length rows.features ≤ 2048
-features-few rows sound = subst (λ (n : ℕ). n ≤ 2048) (size_is rows sound) sound.within.few
+pub features-few : (rows : Rows) → IsSound rows → length rows.features ≤ most_features
+features-few rows sound = subst (λ (n : ℕ). n ≤ most_features) (size_is rows sound) sound.within.few

@@ -74,9 +74,3 @@ pub stand_agree : (names : List (List ℕ)) (marks : List Bool) (set : List (Lis
 stand_agree names marks set stand =
     each_agrees marks set names 0 (λ k name at.
     let here : k ≡ 0 + k = omega arith in subst (λ (m : ℕ). is_marked marks (numbered m) ≡ has set name) here (stand.marked k name at))
-
--- marks that agree with a set agree with each set of the same members
-pub agree_same : (marks : List Bool) (first second : List (List ℕ)) (n : ℕ) (names : List (List ℕ)) → ((name : List ℕ) → has first name ≡ has second name)
-    → AgreeFrom marks first n names → AgreeFrom marks second n names
-agree_same marks first second n [] same h = tt
-agree_same marks first second n (name ∷ names) same h = (sym (same name) ∙ h.0, agree_same marks first second (n + 1) names same h.1)

@@ -1,5 +1,6 @@
 -- Membership in a list of names, as a test and as a fact.
-use Rattle.std.proofs.Common.{◌≡◌, ℕ, Bool, true, false, List, [], ◌∷◌, Contains, refl, sym, subst, if◌then◌else◌, inl, inr, ◌∙◌}
+use Rattle.std.proofs.Common.{◌≡◌, ◌↔◌, ℕ, Bool, true, false, List, [], ◌∷◌, Option, is_some, Contains, refl, sym, subst, if◌then◌else◌, inl, inr, ◌∙◌}
+use Rattle.std.specs.Prelude.{IsSome}
 use Rattle.std.specs.List.{list_all}
 use Rattle.std.specs.Str.{bytes_eq}
 use Rattle.std.proofs.lemmas.Bool.{and_from, and_parts, false_from_ne_true, false≢true, or_cases, or_from, or_left, or_parts, or_right}
@@ -7,6 +8,7 @@ use Rattle.std.proofs.lemmas.Bool.Decides.{same_from_decides}
 use Rattle.std.proofs.lemmas.List.Folds.{list_any_at}
 use Rattle.std.proofs.lemmas.Slice.Eq.{bytes_eq-Decides}
 use Rattle.indexmap.proofs.CallerLemmas.{Contains-list_any}
+use Rattle.uvl_model.specs.declared.rows.FeatureNo.{FeatureNo}
 use Rattle.uvl_model.specs.Names.{marked}
 use Rattle.uvl_model.specs.Product.{has}
 
@@ -20,6 +22,13 @@ has-from_Contains set x c = list_any_at (bytes_eq x) set c.0 x c.1 ((bytes_eq-De
 
 pub Contains-from_has : (set : List (List ℕ)) (x : List ℕ) → has set x ≡ true → Contains set x
 Contains-from_has set x h = Contains-list_any bytes_eq (λ a b. (bytes_eq-Decides a b).0) set x h
+
+-- so a name is found where the test finds it
+pub found_is_has : (names : List (List ℕ)) (name : List ℕ) (found : Option FeatureNo) → (IsSome found ↔ Contains names name) → is_some found ≡ has names name
+found_is_has names name found known =
+    same_from_decides (is_some found) (has names name)
+    ((λ some. has-from_Contains names name (known.0 some)), (λ h. known.1 (Contains-from_has names name h)))
+    ((λ h. h), (λ h. h))
 
 -- and no other
 pub has-absent : (set : List (List ℕ)) (x : List ℕ) → (Contains set x → ⊥) → has set x ≡ false

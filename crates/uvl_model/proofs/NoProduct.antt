@@ -1,4 +1,4 @@
--- A tree is void where no list of marks gives a product, and then no list of names is one.
+-- No set of a family passes a test where no list of marks gives one that does, and then no list of names is one.
 use Rattle.std.proofs.Common.{◌≡◌, ◌↔◌, ℕ, Bool, true, false, not, ◌&&◌, ◌||◌, List, [], ◌∷◌, map, refl, sym, ap, ◌∙◌, subst, if◌then◌else◌, inl, inr}
 use Rattle.std.specs.List.{list_any, list_all}
 use Rattle.std.specs.Str.{bytes_eq}
@@ -6,10 +6,8 @@ use Rattle.std.proofs.lemmas.Bool.{and_parts, and_right, cases_Bool, false_from_
 use Rattle.std.proofs.lemmas.List.Folds.{list_any-append}
 use Rattle.std.proofs.lemmas.Slice.Eq.{bytes_eq-Decides}
 use Rattle.uvl_model.specs.Names.{marked}
-use Rattle.uvl_model.specs.Product.{has, fits, is_product}
-use Rattle.uvl_model.specs.Tree.{Tree, names_of}
-use Rattle.uvl_model.specs.Void.{sublists_of, is_void}
-use Rattle.uvl_model.proofs.Families.{same_products}
+use Rattle.uvl_model.specs.Family.{Family, IsTestOfSets, IsOfSets, sublists_of, some_set, is_void}
+use Rattle.uvl_model.specs.Product.{has}
 use Rattle.uvl_model.proofs.Membership.{member_of_all}
 
 -- a test of what is behind one name
@@ -67,28 +65,49 @@ both_have set (y ∷ ys) x =
     there rest true other later = rw (other, later) refl
     there rest false other later = rw (other, later) refl
 
--- a set of a tree's names and those that it marks are products alike
-as_marked : (tree : Tree) (set : List (List ℕ)) → list_all (has (names_of tree)) set ≡ true → is_product tree (marked (names_of tree) (map (has set) (names_of tree))) ≡ is_product tree set
-as_marked tree set named =
-    same_products tree (marked (names_of tree) (map (has set) (names_of tree))) set
-    (λ x. both_have set (names_of tree) x ∙ within x (has set x) refl)
+-- a set of names and those of them that it marks have the same members
+as_marked : (set names : List (List ℕ)) → list_all (has names) set ≡ true → (x : List ℕ) → has (marked names (map (has set) names)) x ≡ has set x
+as_marked set names named x = both_have set names x ∙ within (has set x) refl
   where
-    within : (x : List ℕ) (b : Bool) → has set x ≡ b → (has (names_of tree) x && b) ≡ b
-    within x true is = rw (member_of_all (names_of tree) set named x is) refl
-    within x false is = and_right (has (names_of tree) x) false refl
+    within : (b : Bool) → has set x ≡ b → (has names x && b) ≡ b
+    within true is = rw (member_of_all names set named x is) refl
+    within false is = and_right (has names x) false refl
 
--- a tree without a product is void
-pub is_void-none : (tree : Tree) → ((marks : List Bool) → is_product tree (marked (names_of tree) marks) ≡ false) → is_void tree ≡ true
-is_void-none tree none = ap not (no_sublist (is_product tree) (names_of tree) none)
+-- where no marks give a set of the family that passes the test, there is none
+pub some_set-none : (family : Family) (test : List (List ℕ) → Bool)
+    → ((marks : List Bool) → (family.contains (marked family.names marks) && test (marked family.names marks)) ≡ false) → some_set family test ≡ false
+some_set-none family test none = no_sublist (λ set. family.contains set && test set) family.names none
 
--- a void tree has no product
-none-is_void : (tree : Tree) → is_void tree ≡ true → (set : List (List ℕ)) → is_product tree set ≡ false
-none-is_void tree void set = false_from_ne_true _ (λ product.
-    let named = (and_parts _ (fits tree set) product).0 in
-    let marks = map (has set) (names_of tree) in
-    let none = no_marked (is_product tree) (names_of tree) (not-true _ void) marks in
-    false≢true (sym none ∙ as_marked tree set ((and_parts _ _ named).0) ∙ product))
+-- and then no list of names is one
+none-some_set : (family : Family) (test : List (List ℕ) → Bool) → IsOfSets family → IsTestOfSets test → some_set family test ≡ false
+    → (set : List (List ℕ)) → (family.contains set && test set) ≡ false
+none-some_set family test sets alike_test none set = false_from_ne_true _ (λ both.
+    let here = (and_parts (family.contains set) (test set) both).0 in
+    let same = as_marked set family.names (sets.named set here) in
+    let marks = map (has set) family.names in
+    let no_set = no_marked (λ names. family.contains names && test names) family.names none marks in
+    let passes : (family.contains (marked family.names marks) && test (marked family.names marks)) ≡ true =
+    rw (sets.by_members (marked family.names marks) set same, alike_test (marked family.names marks) set same) both in
+    false≢true (sym no_set ∙ passes))
 
--- a tree is void exactly where no set is a product
-pub is_void-exactly : (tree : Tree) → (is_void tree ≡ true) ↔ ((set : List (List ℕ)) → is_product tree set ≡ false)
-is_void-exactly tree = (none-is_void tree, λ none. is_void-none tree (λ marks. none (marked (names_of tree) marks)))
+-- some sublist passes exactly where some list of names does
+pub some_set-exactly : (family : Family) (test : List (List ℕ) → Bool) → IsOfSets family → IsTestOfSets test
+    → (some_set family test ≡ false) ↔ ((set : List (List ℕ)) → (family.contains set && test set) ≡ false)
+some_set-exactly family test sets alike_test =
+    (none-some_set family test sets alike_test, λ none. some_set-none family test (λ marks. none (marked family.names marks)))
+
+-- a family is void where no marks give a set of it
+pub is_void-none : (family : Family) → ((marks : List Bool) → family.contains (marked family.names marks) ≡ false) → is_void family ≡ true
+is_void-none family none = ap not (some_set-none family (λ set. true) (λ marks. and_left (none marks)))
+  where
+    and_left : {b : Bool} → b ≡ false → (b && true) ≡ false
+    and_left h = rw h refl
+
+-- and exactly where no list of names is in it
+pub is_void-exactly : (family : Family) → IsOfSets family → (is_void family ≡ true) ↔ ((set : List (List ℕ)) → family.contains set ≡ false)
+is_void-exactly family sets = (
+  λ void set. false_from_ne_true _ (λ here.
+      let none = none-some_set family (λ set. true) sets (λ first second same. refl) (not-true _ void) set in
+      false≢true (sym none ∙ rw here refl)),
+  λ none. is_void-none family (λ marks. none (marked family.names marks)),
+)

@@ -1,7 +1,10 @@
 -- What a mark for each feature says of a group: the plain check reads the rows of the groups alone.
 use Rattle.std.specs.Prelude.{ℕ, ◌==◌, Bool, false, ◌&&◌, nat_le, List, if◌then◌else◌, slice_get, unwrap_or, count_by}
+use Rattle.std.specs.List.{list_all}
 use Rattle.uvl_model.specs.declared.rows.FeatureNo.{FeatureNo}
 use Rattle.uvl_model.specs.declared.rows.GroupRow.{GroupRow}
+use Rattle.uvl_model.specs.Rows.{Rows}
+use Rattle.uvl_model.specs.Spelling.{numbered}
 
 -- whether a feature is marked, as none is beyond the end of the marks
 abbrev pub is_marked : List Bool → FeatureNo → Bool
@@ -17,3 +20,7 @@ group_holds marks row =
     if is_marked marks row.parent
     then nat_le row.lo (marked_count marks row.members) && nat_le (marked_count marks row.members) row.hi
     else marked_count marks row.members == 0
+
+-- the root is marked, and each group holds
+abbrev pub rows_hold : Rows → List Bool → Bool
+rows_hold rows marks = is_marked marks (numbered 0) && list_all (group_holds marks) rows.groups

@@ -4,7 +4,7 @@ use Rattle.uvl_model.specs.Product.{is_product}
 use Rattle.uvl_model.specs.Rows.{Rows}
 use Rattle.uvl_model.specs.Spelling.{feature_rows, group_rows}
 use Rattle.uvl_model.specs.Tree.{Tree, Members, feature, no_groups, group, no_members, member, names_of}
-use Rattle.uvl_model.specs.Void.{sublists_of}
+use Rattle.uvl_model.specs.Family.{sublists_of}
 
 -- members without groups
 abbrev pub leaves : List (List ℕ) → Members

@@ -1,12 +1,13 @@
 pub mod Check
 pub mod Examples
+pub mod Family
 pub mod Laws
 pub mod Marks
 pub mod Names
 pub mod OptionalGroups
 pub mod Product
+pub mod Products
 pub mod Rows
 pub mod Sound
 pub mod Spelling
 pub mod Tree
-pub mod Void

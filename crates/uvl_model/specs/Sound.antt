@@ -1,5 +1,6 @@
 -- What a feature model keeps in its type.
 use Rattle.std.specs.Prelude.{◌≡◌, ℕ, ◌+◌, ◌≤◌, ◌⊎◌, ⊤, List, [], ◌∷◌, Contains}
+use Rattle.uvl_base.specs.Limits.{most_features, most_depth}
 use Rattle.uvl_model.specs.Rows.{Rows}
 use Rattle.uvl_model.specs.Tree.{Tree, Groups, Members, feature, no_groups, group, no_members, member, member_count, names_of, depth_of}
 use Rattle.uvl_model.specs.Spelling.{Spells, size_of}
@@ -29,11 +30,11 @@ abbrev mutual
   MembersAreBounded no_members = ⊤
   MembersAreBounded (member tree others) = IsBounded tree × MembersAreBounded others
 
--- A tree that a model may have: at most 2,048 features, at most 64 deep, with distinct names and bounds
--- as above.
+-- A tree that a model may have: within the limits on features and on their depth, with distinct names and
+-- bounds as above.
 pub record IsWithinLimits (tree : Tree) : Type 0 where
-  pub few : size_of tree ≤ 2048
-  pub shallow : depth_of tree ≤ 64
+  pub few : size_of tree ≤ most_features
+  pub shallow : depth_of tree ≤ most_depth
   pub distinct : AreDistinct (names_of tree)
   pub bounded : IsBounded tree
 

@@ -1,7 +1,7 @@
 //! Laws of the definitions. The functions do nothing: what they ensure is the law.
-ghost use Rattle.uvl_model.specs.Laws.{RowsGiveProducts, RowsGiveNames, RowsCheckProducts, MarksGiveProducts, ProductsAreSets, VoidTreesHaveNoProduct, MarksTellVoidTrees};
+ghost use Rattle.uvl_model.specs.Laws.{RowsGiveProducts, RowsGiveNames, RowsCheckProducts, MarksGiveProducts, ProductsAreSets, ProductsOfTreesAreSets, SublistsTellSets, VoidFamiliesHaveNoSet, MarksTellVoidFamilies};
 
-/// The products of a model are given by its rows alone, whichever tree they are read as.
+/// The products of a model's rows are those of each tree that the rows spell.
 pub fn rows_give_products()
     ensures { RowsGiveProducts }
 {}
@@ -16,9 +16,10 @@ pub fn rows_check_products()
     ensures { RowsCheckProducts }
 {}
 
-/// Lists of names that have the same members are products alike.
+/// Lists of names that have the same members are products alike, and each name is a feature's.
 pub fn products_are_sets()
-    ensures { ProductsAreSets }
+    ensures rows { ProductsAreSets }
+    ensures trees { ProductsOfTreesAreSets }
 {}
 
 /// Marks that stand for a set are a product where the set is one.
@@ -26,9 +27,15 @@ pub fn marks_give_products()
     ensures { MarksGiveProducts }
 {}
 
-/// A tree is void exactly where no list of names whatever is a product of it, and it is so already
-/// where no marks of its features give one.
-pub fn void_trees_have_no_product()
-    ensures exact { VoidTreesHaveNoProduct }
-    ensures marks { MarksTellVoidTrees }
+/// A set that passes a test is in a family exactly where there is one among the sublists of the
+/// family's names.
+pub fn sublists_tell_sets()
+    ensures { SublistsTellSets }
+{}
+
+/// A family is void exactly where no list of names whatever is in it, and it is so already where no
+/// marks of its names give a set of it.
+pub fn void_families_have_no_set()
+    ensures exact { VoidFamiliesHaveNoSet }
+    ensures marks { MarksTellVoidFamilies }
 {}

@@ -10,7 +10,7 @@ mod rows;
 
 pub use laws::{
     marks_give_products, products_are_sets, rows_check_products, rows_give_names,
-    rows_give_products, void_trees_have_no_product,
+    rows_give_products, sublists_tell_sets, void_families_have_no_set,
 };
 pub use model::Model;
 pub use names::NameIndex;

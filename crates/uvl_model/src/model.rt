@@ -5,9 +5,9 @@ use crate::check::{groups_hold, is_chosen};
 use crate::{FeatureNo, FeatureRow, GroupRow, NameIndex};
 use sqlite_items::Items;
 
-/// A feature model: the rows of a tree of at most 2,048 features, at most 64 deep, with distinct
-/// names, in which each group has bounds that its members can meet, or none can. Contracts see the
-/// rows.
+/// A feature model: the rows of a tree within the limits on features and on their depth, with
+/// distinct names, in which each group has bounds that its members can meet, or none can. Contracts
+/// see the rows.
 #[derive(Debug, Drop)]
 pub struct Model {
     features: Items<FeatureRow>,
@@ -31,12 +31,13 @@ impl std::marker::Model for Model {
 }
 
 impl Model {
+    ghost use Rattle.uvl_base.specs.Limits.{most_features};
     ghost use Rattle.uvl_model.specs.Marks.{StandFor};
     ghost use Rattle.uvl_model.specs.Names.{feature_names, chosen_names};
-    ghost use Rattle.uvl_model.specs.Product.{has, is_product};
+    ghost use Rattle.uvl_model.specs.Product.{has};
+    ghost use Rattle.uvl_model.specs.Products.{Products};
     ghost use Rattle.uvl_model.specs.Sound.{IsSound};
-    ghost use Rattle.uvl_model.specs.Spelling.{Spells, numbered};
-    ghost use Rattle.uvl_model.specs.Tree.{Tree, names_of};
+    ghost use Rattle.uvl_model.specs.Spelling.{numbered};
 
     /// The model with these rows, whose names the index has by number.
     pub fn new(names: NameIndex, features: Items<FeatureRow>, groups: Items<GroupRow>) -> Model
@@ -51,11 +52,11 @@ impl Model {
         }
     }
 
-    /// The features, by number: 1 to 2,048 of them.
+    /// The features, by number: at least one, and no more than a model may have.
     pub fn features(&self) -> &[FeatureRow]
         ensures rows { result.now ≡ self.now.features }
         ensures some { 0 < length result.now }
-        ensures few { length result.now ≤ 2048 }
+        ensures few { length result.now ≤ most_features }
         ensures sound { IsSound self.now }
     {
         self.features.as_slice()
@@ -70,15 +71,13 @@ impl Model {
         self.groups.as_slice()
     }
 
-    /// The number of the feature with this name: its place among the names of the tree.
+    /// The number of the feature with this name: its place among the names of the features.
     pub fn find(&self, name: &str) -> Option<FeatureNo>
         ensures exact { (n : ℕ) → (result ≡ Some (numbered n))
             ↔ (slice_get (feature_names self.now) n ≡ Some (chars name.now)) }
         ensures known { IsSome result ↔ Contains (feature_names self.now) (chars name.now) }
         ensures within { IfSome result (λ f. f.0 < length self.now.features) }
-        ensures in_tree { (tree : Tree) → Spells tree self.now → is_some result ≡ has (names_of tree) (chars name.now) }
-        ensures place_in_tree { (tree : Tree) → Spells tree self.now →
-            (n : ℕ) → (result ≡ Some (numbered n)) ↔ (slice_get (names_of tree) n ≡ Some (chars name.now)) }
+        ensures feature { is_some result ≡ has (Products self.now).names (chars name.now) }
     {
         self.names.find(name)
     }
@@ -87,10 +86,9 @@ impl Model {
     /// and each group holds. It takes no memory, and time linear in the features.
     pub fn is_product(&self, chosen: &[bool]) -> bool
         requires { length chosen.now ≡ length self.now.features }
-        ensures product { (tree : Tree) → Spells tree self.now
-            → result ≡ is_product tree (chosen_names self.now chosen.now) }
-        ensures each_set { (tree : Tree) (set : List (List ℕ)) → Spells tree self.now
-            → StandFor (names_of tree) chosen.now set → result ≡ is_product tree set }
+        ensures product { result ≡ (Products self.now).contains (chosen_names self.now chosen.now) }
+        ensures each_set { (set : List (List ℕ)) → StandFor (Products self.now).names chosen.now set →
+            result ≡ (Products self.now).contains set }
         ensures sound { IsSound self.now }
     {
         is_chosen(FeatureNo(0), chosen) && groups_hold(self.groups.as_slice(), chosen)

@@ -1,7 +1,8 @@
 //! The definitions on small trees, and each call once on a thin model.
 ghost use Rattle.std.specs.Prelude.{◌≡◌, [], ◌∷◌, true, false, codes, chars, IfOk};
 ghost use Rattle.uvl_model.specs.Examples.{thin_tree, thin_rows, two_or_three, unfittable, void_tree, products_of};
-ghost use Rattle.uvl_model.specs.Void.{is_void};
+ghost use Rattle.uvl_model.specs.Family.{is_void};
+ghost use Rattle.uvl_model.specs.Products.{ProductsOfTree};
 
 use crate::{FeatureNo, FeatureRow, GroupRow, Model, NameIndex};
 use sqlite_items::Items;
@@ -19,8 +20,8 @@ fn products_of_examples()
         ∷ (codes "R" ∷ codes "A" ∷ codes "C" ∷ [])
         ∷ (codes "R" ∷ codes "B" ∷ codes "C" ∷ []) ∷ [] }
     ensures never_met { products_of unfittable ≡ (codes "R" ∷ []) ∷ [] }
-    ensures not_void { is_void unfittable ≡ false }
-    ensures void { is_void void_tree ≡ true }
+    ensures not_void { is_void (ProductsOfTree unfittable) ≡ false }
+    ensures void { is_void (ProductsOfTree void_tree) ≡ true }
 {}
 
 #[test]

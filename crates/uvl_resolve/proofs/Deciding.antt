@@ -8,6 +8,7 @@ use Rattle.std.proofs.lemmas.Bool.Decides.{leb_tells}
 use Rattle.std.proofs.lemmas.List.{length-map}
 use Rattle.std.proofs.lemmas.List.Elements.{All-map}
 use Rattle.std.proofs.lemmas.Slice.Eq.{bytes_eq-Decides}
+use Rattle.uvl_base.specs.Limits.{most_features}
 use Rattle.uvl_ast.specs.declared.feature.Feature.{Feature}
 use Rattle.uvl_ast.specs.declared.feature.GroupKind.{GroupKind}
 use Rattle.uvl_ast.specs.declared.feature.GroupKind.TheVariants.{Mandatory, Optional, Alternative, Or, Range}
@@ -82,8 +83,8 @@ names_decided (name ∷ names) =
     ]
 
 -- a count is within the limit or above it
-few_or_many : (n : ℕ) → (n ≤ 2048) ⊎ (2048 < n)
-few_or_many n = elim (leb_tells n 2048) [ inl few ↦ inl few.1 | inr many ↦ inr many.1 ]
+few_or_many : (n : ℕ) → (n ≤ most_features) ⊎ (most_features < n)
+few_or_many n = elim (leb_tells n most_features) [ inl few ↦ inl few.1 | inr many ↦ inr many.1 ]
 
 -- the lines of a tree are as many as its names
 line_count : (root : Feature) (tree : Tree) → IsTree root tree → length (lines_from root) ≡ length (names_of tree)
@@ -115,7 +116,7 @@ root_decided root =
         elim (names_decided (names_of tree)) [
           | inr twice ↦ inr (name_twice (λ distinct. twice (subst AreDistinct (line_names root tree says) distinct)))
           | inl distinct ↦ elim (few_or_many (length (names_of tree))) [
-            | inr many ↦ inr (too_many (subst (λ (n : ℕ). 2048 < n) (sym (line_count root tree says)) many))
+            | inr many ↦ inr (too_many (subst (λ (n : ℕ). most_features < n) (sym (line_count root tree says)) many))
             | inl few ↦ inl (tree, says, record { distinct = distinct; few = few })
           ]
         ]

@@ -11,6 +11,7 @@ use Rattle.uvl_ast.specs.declared.feature.Feature.TheFolds.{fold_out-Feature, fo
 use Rattle.uvl_ast.specs.declared.feature.Group.{Group, out-Group}
 use Rattle.uvl_ast.specs.declared.feature.GroupKind.{GroupKind}
 use Rattle.uvl_ast.specs.declared.feature.GroupKind.TheVariants.{Mandatory, Optional, Alternative, Or, Range}
+use Rattle.uvl_ast.specs.declared.file.File.{File}
 use Rattle.uvl_model.specs.declared.rows.FeatureNo.{FeatureNo}
 use Rattle.uvl_model.specs.declared.rows.FeatureRow.{FeatureRow}
 use Rattle.uvl_model.specs.declared.rows.GroupRow.{GroupRow}
@@ -18,10 +19,12 @@ use Rattle.uvl_model.specs.Sound.{IsSound, HasBounds, IsBounded, AreBounded, Mem
 use Rattle.uvl_model.specs.Spelling.{numbered, size_of, size_of_members, feature_rows, group_rows, group_rows_of_groups, group_rows_of_members, member_numbers}
 use Rattle.uvl_model.specs.Tree.{Tree, Groups, Members, feature, no_groups, group, no_members, member, member_count, names_of, depth_of as tree_depth, depth_of_groups, depth_of_members}
 use Rattle.uvl_resolve.specs.declared.rows.RowBuilder.{RowBuilder}
-use Rattle.uvl_resolve.specs.Built.{AreModelNames}
 use Rattle.uvl_model.specs.OptionalGroups.{IsMandatoryOrOptional}
+use Rattle.uvl_resolve.specs.Built.{AreModelNames, IsBuilt}
+use Rattle.uvl_resolve.specs.Flat.{Flat}
 use Rattle.uvl_resolve.specs.TreeOf.{IsTree, AreGroups, AreMembers, bounds_of}
-use Rattle.uvl_resolve.specs.Walk.{AddsTree}
+use Rattle.uvl_base.specs.Limits.{most_depth}
+use Rattle.uvl_resolve.specs.steps.Walk.{AddsTree}
 use Rattle.uvl_resolve.proofs.Everywhere.{all_front, all_rest}
 use Rattle.uvl_resolve.proofs.Existing.{depth_at, depth_in}
 
@@ -173,7 +176,7 @@ whole old new line names features groups h = record {
 }
 
 -- such rows are those of a model
-pub whole_sound : (new : RowBuilder) (line : Feature) → IsWhole new line → AreModelNames new.names → depth_of line ≤ 64 → EachGroupHasMembers line
+pub whole_sound : (new : RowBuilder) (line : Feature) → IsWhole new line → AreModelNames new.names → depth_of line ≤ most_depth → EachGroupHasMembers line
     → IsSound (record { features = new.features; groups = new.groups })
 whole_sound new line h names shallow some =
     let fit : AreModelNames (names_of h.tree) = subst AreModelNames h.names names in
@@ -182,11 +185,29 @@ whole_sound new line h names shallow some =
       spelled = record { features = h.features; groups = h.groups };
       within = record {
         few = fit.few;
-        shallow = subst (λ (n : ℕ). n ≤ 64) (sym (depth_same line h.tree h.says)) shallow;
+        shallow = subst (λ (n : ℕ). n ≤ most_depth) (sym (depth_same line h.tree h.says)) shallow;
         distinct = fit.distinct;
         bounded = tree_bounded line h.tree h.says some;
       };
     }
+
+-- the file is built then
+pub whole_built : (file : File) (new : RowBuilder) (root : Feature) → IsWhole new root → AreModelNames new.names
+    → file.root ≡ Some root → file.imports ≡ [] → file.rules ≡ [] → IsBuilt file
+whole_built file new root h names at_root no_imports no_rules = record {
+  tree = h.tree;
+  of_file = record { root = root; at_root = at_root; says = h.says; no_imports = no_imports; no_rules = no_rules };
+  names = subst AreModelNames h.names names;
+}
+
+-- and the rows are its tree
+pub whole_flat : (file : File) (new : RowBuilder) (root : Feature) → IsWhole new root → AreModelNames new.names
+    → file.root ≡ Some root → file.imports ≡ [] → file.rules ≡ [] → Flat file (record { features = new.features; groups = new.groups })
+unfolding whole_built
+whole_flat file new root h names at_root no_imports no_rules = record {
+  built = whole_built file new root h names at_root no_imports no_rules;
+  spelled = record { features = h.features; groups = h.groups };
+}
 
 -- and their groups are mandatory or optional
 pub whole_thin : (new : RowBuilder) (line : Feature) → IsWhole new line → All IsMandatoryOrOptional new.groups

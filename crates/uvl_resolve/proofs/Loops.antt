@@ -9,7 +9,7 @@ use Rattle.uvl_model.specs.Tree.{Tree, Groups, Members, no_groups, group, no_mem
 use Rattle.uvl_resolve.specs.declared.rows.RowBuilder.{RowBuilder}
 use Rattle.uvl_resolve.specs.Built.{AreModelNames}
 use Rattle.uvl_resolve.specs.TreeOf.{IsTree, AreGroups, AreMembers, bounds_of}
-use Rattle.uvl_resolve.specs.Walk.{AreSoFar, AddsTree, AddsGroup, AddsGroups, AddsMembers}
+use Rattle.uvl_resolve.specs.steps.Walk.{AreSoFar, AddsTree, AddsGroup, AddsGroups, AddsMembers}
 use Rattle.uvl_resolve.proofs.ModelNames.{names-middle}
 use Rattle.uvl_resolve.proofs.OneTree.{one_tree, one_members}
 use Rattle.uvl_resolve.proofs.Steps.{group_and_groups, no_groups_left, tree_and_members, no_members_left}

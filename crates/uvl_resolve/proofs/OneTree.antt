@@ -1,10 +1,13 @@
 -- Lines with what stands below them are one tree at most.
-use Rattle.std.proofs.Common.{◌≡◌, ℕ, List, [], ◌∷◌, Option, Some, refl, sym, ap, ◌∙◌, subst}
+use Rattle.std.proofs.Common.{◌≡◌, ℕ, List, [], ◌∷◌, Option, Some, None, refl, sym, ap, ◌∙◌, subst}
 use Rattle.std.specs.Prelude.{unwrap_or}
 use Rattle.uvl_ast.specs.declared.feature.Feature.{Feature, out-Feature}
 use Rattle.uvl_ast.specs.declared.feature.Group.{Group, out-Group}
 use Rattle.uvl_ast.specs.declared.file.File.{File}
+use Rattle.uvl_model.specs.Rows.{Rows}
+use Rattle.uvl_model.specs.Spelling.{feature_rows, group_rows}
 use Rattle.uvl_model.specs.Tree.{Tree, Groups, Members, feature, no_groups, group, no_members, member}
+use Rattle.uvl_resolve.specs.Flat.{Flat}
 use Rattle.uvl_resolve.specs.TreeOf.{Declares, IsTree, AreGroups, AreMembers, IsTreeOf}
 
 -- the bounds of a group are one pair
@@ -57,3 +60,11 @@ pub one_tree_of_file : (file : File) (first second : Tree) → IsTreeOf file fir
 one_tree_of_file file first second h k =
     let root : k.root ≡ h.root = one_root file k.root h.root k.at_root h.at_root in
     one_tree h.root first second h.says (subst (λ (line : Feature). IsTree line second) root k.says)
+
+-- and so one model
+pub one_model_of_file : (file : File) (first second : Rows) → Flat file first → Flat file second → first ≡ second
+one_model_of_file file first second h k =
+    let tree = one_tree_of_file file h.built.tree k.built.tree h.built.of_file k.built.of_file in
+    let features = h.spelled.features ∙ ap (feature_rows None 0) tree ∙ sym k.spelled.features in
+    let groups = h.spelled.groups ∙ ap (group_rows 0) tree ∙ sym k.spelled.groups in
+    λ i. record { features = features i; groups = groups i }

@@ -8,7 +8,7 @@ use Rattle.uvl_model.specs.declared.rows.GroupRow.{GroupRow}
 use Rattle.uvl_model.specs.Spelling.{numbered, size_of, size_of_members, feature_rows_of_groups, feature_rows_of_members, member_numbers, group_rows_of_groups, group_rows_of_members}
 use Rattle.uvl_model.specs.Tree.{feature, no_groups, group, no_members, member}
 use Rattle.uvl_resolve.specs.declared.rows.RowBuilder.{RowBuilder}
-use Rattle.uvl_resolve.specs.Walk.{AddsLine, AddsTree, AddsGroup, AddsGroups, AddsMembers}
+use Rattle.uvl_resolve.specs.steps.Walk.{AddsLine, AddsTree, AddsGroup, AddsGroups, AddsMembers}
 
 -- what is added in two steps
 joined : {A : Type 0} (old mid new a b : List A) → mid ≡ old ++ a → new ≡ mid ++ b → new ≡ old ++ (a ++ b)

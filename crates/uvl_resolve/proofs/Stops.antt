@@ -9,7 +9,8 @@ use Rattle.uvl_resolve.specs.declared.fault.ResolveFault.TheVariants.{NotBuilt}
 use Rattle.uvl_resolve.specs.declared.rows.RowBuilder.{RowBuilder}
 use Rattle.uvl_resolve.specs.Built.{AreModelNames}
 use Rattle.uvl_resolve.specs.TreeOf.{Declares, IsTree, AreGroups, AreMembers}
-use Rattle.uvl_resolve.specs.Walk.{AddsLine}
+use Rattle.uvl_base.specs.Limits.{most_features}
+use Rattle.uvl_resolve.specs.steps.Walk.{AddsLine}
 use Rattle.uvl_resolve.proofs.Loops.{behind}
 use Rattle.uvl_resolve.proofs.ModelNames.{names-middle}
 use Rattle.uvl_resolve.proofs.OneTree.{one_name}
@@ -45,7 +46,7 @@ members_many (line ∷ rest) (member tree others) h =
     omega (arith, length-append (names_of tree) (names_of_members others), some_names tree, members_many rest others h.1)
 
 -- at a group of more members than a model has features
-pub crowd_stop : (names : List (List ℕ)) (written : List Feature) → 2048 < length written
+pub crowd_stop : (names : List (List ℕ)) (written : List Feature) → most_features < length written
     → (trees : Members) → AreMembers written trees → AreModelNames (names ++ names_of_members trees) → ⊥
 crowd_stop names written many trees h k =
     absurd (omega (arith, many, members_many written trees h, k.few, length-append names (names_of_members trees)))

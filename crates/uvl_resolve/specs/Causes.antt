@@ -1,6 +1,7 @@
 -- Why no model is made of a file.
 use Rattle.std.specs.Prelude.{◌≡◌, ◌≢◌, ◌<◌, ◌⊎◌, [], length, Some, None}
 use Rattle.std.specs.List.{Any}
+use Rattle.uvl_base.specs.Limits.{most_features}
 use Rattle.uvl_ast.specs.declared.feature.Feature.{Feature}
 use Rattle.uvl_ast.specs.declared.feature.GroupKind.{GroupKind}
 use Rattle.uvl_ast.specs.declared.feature.GroupKind.TheVariants.{Mandatory, Optional}
@@ -21,14 +22,14 @@ abbrev pub IsOtherKind : GroupKind → Type 0
 IsOtherKind kind = (kind ≢ Mandatory) × (kind ≢ Optional)
 
 -- The causes in a tree of features: an entry in the braces of some line, a group of another kind, a placing
--- line, a name that stands twice, more than 2,048 features. The last two are for good, the others until they
--- are built.
+-- line, a name that stands twice, more features than a model may have. The last two are for good, the others
+-- until they are built.
 pub data HasTreeCause (root : Feature) : Type 0 where
   entry : Any HasEntry (lines_from root) → HasTreeCause root
   other_kind : Any IsOtherKind (kinds_from root) → HasTreeCause root
   placing_line : Any IsPlacing (lines_from root) → HasTreeCause root
   name_twice : (AreDistinct (names_in (lines_from root)) → ⊥) → HasTreeCause root
-  too_many : 2048 < length (lines_from root) → HasTreeCause root
+  too_many : most_features < length (lines_from root) → HasTreeCause root
 
 -- The causes in a file: there is no features section, there is an import line, there is a constraint, or the
 -- tree of the features section has a cause.

@@ -1,6 +1,7 @@
 pub mod Built
 pub mod Causes
+pub mod Flat
 pub mod Laws
 pub mod Lines
 pub mod TreeOf
-pub mod Walk
+pub mod steps

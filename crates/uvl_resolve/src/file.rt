@@ -2,11 +2,10 @@
 ghost use Rattle.std.specs.Prelude.{◌≤◌, IfOk, IsErr, IfSome, IsErrOf};
 ghost use Rattle.uvl_ast.specs.Depth.{depth_of};
 ghost use Rattle.uvl_ast.specs.Members.{EachGroupHasMembers};
-ghost use Rattle.uvl_model.specs.Spelling.{Spells};
-ghost use Rattle.uvl_model.specs.Tree.{Tree};
-ghost use Rattle.uvl_resolve.specs.Causes.{HasCause};
+ghost use Rattle.uvl_base.specs.Limits.{most_depth};
 ghost use Rattle.uvl_model.specs.OptionalGroups.{GroupsAreMandatoryOrOptional};
-ghost use Rattle.uvl_resolve.specs.TreeOf.{IsTreeOf};
+ghost use Rattle.uvl_resolve.specs.Causes.{HasCause};
+ghost use Rattle.uvl_resolve.specs.Flat.{Flat};
 
 use crate::ResolveFault;
 use crate::rows::RowBuilder;
@@ -17,9 +16,9 @@ use uvl_model::Model;
 /// The model that a file says, in time linear in the file's tree. Today a file says a model where
 /// it is the text of a tree of mandatory and optional groups with distinct names.
 pub fn resolve(alloc: Global, file: &File) -> Result<Model, ResolveFault>
-    requires shallow { IfSome file.now.root (λ root. depth_of root ≤ 64) }
+    requires shallow { IfSome file.now.root (λ root. depth_of root ≤ most_depth) }
     requires members { IfSome file.now.root EachGroupHasMembers }
-    ensures spelled { IfOk result (λ model. (tree : Tree) × IsTreeOf file.now tree × Spells tree model) }
+    ensures flat { IfOk result (Flat file.now) }
     ensures groups { IfOk result GroupsAreMandatoryOrOptional }
     ensures not_built { IsErrOf result ResolveFault.NotBuilt → HasCause file.now }
     ensures refused { HasCause file.now → IsErr result }

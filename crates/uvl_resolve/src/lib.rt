@@ -11,7 +11,9 @@ mod walk;
 
 pub use fault::ResolveFault;
 pub use file::resolve;
-pub use laws::{files_are_built_or_have_a_cause, files_have_one_tree};
+pub use laws::{
+    files_are_built_or_have_a_cause, files_have_one_model, files_have_one_tree, flat_keeps_products,
+};
 
 #[cfg(test)]
 mod tests;

@@ -3,17 +3,15 @@ ghost use Rattle.std.specs.Prelude.{◌≡◌, [], ◌∷◌, ◌++◌, ℕ, Lis
 ghost use Rattle.uvl_model.specs.Spelling.{numbered};
 ghost use Rattle.uvl_resolve.specs.Built.{AreModelNames};
 ghost use Rattle.uvl_resolve.specs.TreeOf.{Declares};
-ghost use Rattle.uvl_resolve.specs.Walk.{AreSoFar, AddsLine};
+ghost use Rattle.uvl_resolve.specs.steps.Walk.{AreSoFar, AddsLine};
 
 use crate::ResolveFault;
 use crate::line::declared_name;
 use sqlite_items::Items;
 use std::alloc::Global;
 use uvl_ast::Feature;
+use uvl_base::MOST_FEATURES;
 use uvl_model::{FeatureNo, FeatureRow, GroupRow, NameIndex};
-
-/// How many features a model has at most.
-pub(crate) const MOST_FEATURES: usize = 2048;
 
 /// The rows so far, in the order of the document, and the names of the features by number.
 #[derive(Drop)]

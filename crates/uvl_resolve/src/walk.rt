@@ -6,13 +6,14 @@ ghost use Rattle.uvl_model.specs.Spelling.{numbered};
 ghost use Rattle.uvl_model.specs.Tree.{Tree, Groups, Members, names_of, names_of_groups, names_of_members};
 ghost use Rattle.uvl_resolve.specs.Built.{AreModelNames};
 ghost use Rattle.uvl_resolve.specs.TreeOf.{IsTree, AreGroups, AreMembers, bounds_of};
-ghost use Rattle.uvl_resolve.specs.Walk.{AreSoFar, AddsTree, AddsGroup, AddsGroups, AddsMembers};
+ghost use Rattle.uvl_resolve.specs.steps.Walk.{AreSoFar, AddsTree, AddsGroup, AddsGroups, AddsMembers};
 
 use crate::ResolveFault;
 use crate::group::bounds_of;
-use crate::rows::{MOST_FEATURES, RowBuilder};
+use crate::rows::RowBuilder;
 use sqlite_items::Items;
 use uvl_ast::{Feature, Group};
+use uvl_base::MOST_FEATURES;
 use uvl_model::{FeatureNo, GroupRow};
 
 impl RowBuilder {

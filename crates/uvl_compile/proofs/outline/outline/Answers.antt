@@ -1,13 +1,13 @@
 -- All groups together give each feature its entry.
-use Rattle.std.proofs.Common.{◌≡◌, ℕ, ◌+◌, ◌<◌, true, List, [], ◌∷◌, length, get_or, drop, sym, ap, ◌∙◌, subst, arith}
+use Rattle.std.proofs.Common.{◌≡◌, ℕ, ◌+◌, ◌-◌, ◌<◌, true, List, [], ◌∷◌, length, get_or, drop, sym, ap, ◌∙◌, subst, arith}
 use Rattle.std.specs.Prelude.{replicate}
 use Rattle.std.proofs.lemmas.List.{drop_all, length-replicate}
+use Rattle.uvl_base.specs.Limits.{most_depth}
 use Rattle.uvl_model.specs.declared.rows.GroupRow.{GroupRow}
-use Rattle.uvl_model.specs.Spelling.{Spells, size_of, group_rows}
-use Rattle.uvl_model.specs.Tree.{Tree}
+use Rattle.uvl_model.specs.Spelling.{size_of, group_rows}
 use Rattle.uvl_compile.specs.declared.outline.Entry.{Entry}
 use Rattle.uvl_compile.specs.Entering.{IsWithin, with_group, AreShallow}
-use Rattle.uvl_compile.specs.Outline.{outline_of}
+use Rattle.uvl_compile.specs.Outline.{outline_of, IsOutlineOf}
 use Rattle.uvl_compile.proofs.Entries.{with_groups, length-with_groups, length-entries_of, tree_entered, all_from, shallow_group, replicated_at, groups_left, written_back}
 use Rattle.uvl_compile.proofs.Limits.{features_are, rows_within, tree_shallow}
 use Rattle.uvl_compile.proofs.outline.outline.Goals as goal
@@ -41,7 +41,7 @@ loop-group-preserved c =
     }
 
 -- all groups are entered
-entered : (c : goal.After-loop-group) → (tree : Tree) → Spells tree c.args.model.now → c.loop-group.entries.items ≡ outline_of tree
+entered : (c : goal.After-loop-group) → IsOutlineOf c.args.model.now c.loop-group.entries.items
 entered c tree spelled =
     let model = c.args.model.now in
     let n = length c.features.result.now in
@@ -66,5 +66,5 @@ returns c =
     record {
       outline = entered c;
       count = ap length here ∙ length-entries_of sound.tree 0 true ∙ sym size;
-      shallow = subst (AreShallow 63) (sym here) (tree_shallow sound.tree 0 63 true (let shallow = sound.within.shallow in omega arith));
+      shallow = subst (AreShallow (most_depth - 1)) (sym here) (tree_shallow sound.tree 0 (most_depth - 1) true (let shallow = sound.within.shallow in omega arith));
     }

@@ -21,14 +21,12 @@ pub returns-clause-gained : goal.returns-clause-gained
 returns-clause-gained c = gains_one c.in_ok-row.ensures.held (one_handle c)
 
 pub returns-clause-products : goal.returns-clause-products
-returns-clause-products c = λ tree a spelled.
-    let sound = c.features.ensures.sound in
-    let whole = c.deref.ensures.value ∙ c.in_ok-entries.ensures.outline tree spelled in
-    let law = c.outline_tells_products.ensures tree c.args.model.now a sound c.requires.groups spelled in
+returns-clause-products c = λ a.
+    let law = c.outline_tells_products.ensures c.args.model.now c.in_ok-entries.entries.items a c.features.ensures.sound c.requires.groups c.in_ok-entries.ensures.outline in
     let only = one_handle c in
     let first : slice_index c.in_ok-row.row.items 0 ≡ c.in-Some.handle = ap (λ (hs : List ℕ). slice_index hs 0) only in
     let size = ap length only in
     ap (λ (h : ℕ). value_of c.first_row.new.store h a) (sym first)
     ∙ c.in_ok-row.ensures.row.part.value 0 a (omega arith)
-    ∙ ap (λ (es : List Entry). is_allowed es 0 a 0) whole
+    ∙ ap (λ (es : List Entry). is_allowed es 0 a 0) c.deref.ensures.value
     ∙ sym law

@@ -2,6 +2,7 @@
 use Rattle.std.proofs.Common.{◌≤◌, ◌-◌, ◌*◌, length, drop}
 use Rattle.dd_store.specs.Table.{IsSound}
 use Rattle.uvl_compile.specs.Held.{HoldsMore, Grows}
+use Rattle.uvl_compile.specs.Nodes.{nodes_per_feature}
 use Rattle.uvl_compile.specs.Row.{IsRow}
 use Rattle.uvl_compile.proofs.products.first_row.Given as goal
 
@@ -9,7 +10,7 @@ abbrev pub invariant-loop-feature : goal.invariant-loop-feature
 invariant-loop-feature l = record {
   row : IsRow l.store l.feature (drop l.feature l.entries) l.row.items;
   held : HoldsMore l.fn.store l.store l.row.items;
-  grows : Grows l.fn.store l.store (64 * (length l.entries - l.feature));
+  grows : Grows l.fn.store l.store (nodes_per_feature * (length l.entries - l.feature));
   sound : IsSound l.store;
   within : l.feature ≤ length l.entries;
 }

@@ -3,6 +3,7 @@ use Rattle.std.proofs.Common.{◌≡◌, ℕ, ◌+◌, Bool, List, [], ◌∷◌
 use Rattle.dd_store.specs.Table.{IsLive, value_of}
 use Rattle.uvl_compile.specs.Choice.{is_allowed}
 use Rattle.uvl_compile.specs.Held.{HoldsMore}
+use Rattle.uvl_compile.specs.Nodes.{nodes_per_feature}
 use Rattle.uvl_compile.specs.Row.{IsPartOfRow}
 use Rattle.uvl_compile.proofs.Growing.{live_more, live_gained, more_push, grows_then, grows_more}
 use Rattle.uvl_compile.proofs.Rows.{part_grows, part_push, above_new, length-push}
@@ -12,7 +13,7 @@ pub returns-in_err-handle-clause-grows : goal.returns-in_err-handle-clause-grows
 returns-in_err-handle-clause-grows c =
     let bound = c.loop-chosen-test.true in
     let shallow = c.requires.shallow in
-    grows_more 64 (grows_then c.loop-chosen.invariant.grows c.choice.ensures.grows (live_more c.loop-chosen.invariant.held)) (omega arith)
+    grows_more nodes_per_feature (grows_then c.loop-chosen.invariant.grows c.choice.ensures.grows (live_more c.loop-chosen.invariant.held)) (omega arith)
 
 pub loop-chosen-preserved : goal.loop-chosen-preserved
 loop-chosen-preserved c =

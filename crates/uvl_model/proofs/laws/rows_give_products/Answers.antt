@@ -1,6 +1,6 @@
--- The check of the rows decides for either tree.
-use Rattle.uvl_model.proofs.Families.{one_family}
+-- The check of the rows decides for the tree.
+use Rattle.uvl_model.proofs.Families.{spelled_products}
 use Rattle.uvl_model.proofs.laws.rows_give_products.Goals as goal
 
 pub returns : goal.returns
-returns c = one_family
+returns c = spelled_products

@@ -1,15 +1,17 @@
 -- The rows of the whole walk are those of a model, and where the walk stops the file has a cause.
 use Rattle.std.proofs.Common.{rules, ◌≡◌, ◌++◌, [], List, ℕ, Option, Err, sym, ap, subst}
 use Rattle.std.specs.Prelude.{IfSome, ◌≤◌}
+use Rattle.uvl_base.specs.Limits.{most_depth}
 use Rattle.uvl_ast.specs.Depth.{depth_of}
 use Rattle.uvl_ast.specs.Members.{EachGroupHasMembers}
 use Rattle.uvl_ast.specs.declared.feature.Feature.{Feature}
 use Rattle.uvl_model.specs.Tree.{Tree, names_of}
 use Rattle.uvl_resolve.specs.Built.{AreModelNames}
 use Rattle.uvl_model.specs.OptionalGroups.{GroupsAreMandatoryOrOptional}
+use Rattle.uvl_resolve.specs.Flat.{Flat}
 use Rattle.uvl_resolve.specs.TreeOf.{IsTree}
 use Rattle.uvl_resolve.proofs.Deciding.{cause_found, built_no_cause}
-use Rattle.uvl_resolve.proofs.Limits.{whole, whole_sound, whole_thin}
+use Rattle.uvl_resolve.proofs.Limits.{whole, whole_sound, whole_built, whole_flat, whole_thin}
 use Rattle.uvl_resolve.proofs.Stops.{same_fault}
 use Rattle.uvl_resolve.proofs.file.resolve.Goals as goal
 
@@ -25,8 +27,18 @@ new-requires-clause-sound c =
     let root = c.in-Some.root in
     let h = whole c.new-rows.result rows root c.new-rows.ensures.names c.new-rows.ensures.features c.new-rows.ensures.groups c.in_ok-add_feature.ensures.added in
     whole_sound rows root h c.in_ok-add_feature.ensures.so_far.names
-    (subst (λ (o : Option Feature). IfSome o (λ line. depth_of line ≤ 64)) c.in-Some.is c.requires.shallow)
+    (subst (λ (o : Option Feature). IfSome o (λ line. depth_of line ≤ most_depth)) c.in-Some.is c.requires.shallow)
     (subst (λ (o : Option Feature). IfSome o EachGroupHasMembers) c.in-Some.is c.requires.members)
+
+pub returns-clause-flat : goal.returns-clause-flat
+returns-clause-flat c =
+    let rows = c.add_feature.new.self in
+    let root = c.in-Some.root in
+    let h = whole c.new-rows.result rows root c.new-rows.ensures.names c.new-rows.ensures.features c.new-rows.ensures.groups c.in_ok-add_feature.ensures.added in
+    let no_imports : c.args.file.now.imports ≡ [] = search rules in
+    let no_rules : c.args.file.now.rules ≡ [] = search rules in
+    subst (Flat c.args.file.now) (sym c.new.ensures)
+    (whole_flat c.args.file.now rows root h c.in_ok-add_feature.ensures.so_far.names c.in-Some.is no_imports no_rules)
 
 pub returns-clause-groups : goal.returns-clause-groups
 returns-clause-groups c =
@@ -44,9 +56,5 @@ returns-clause-refused c = λ cause.
     let no_rules : c.args.file.now.rules ≡ [] = search rules in
     absurd
     (built_no_cause c.args.file.now
-    (record {
-      tree = h.tree;
-      of_file = record { root = root; at_root = c.in-Some.is; says = h.says; no_imports = no_imports; no_rules = no_rules };
-      names = subst AreModelNames h.names c.in_ok-add_feature.ensures.so_far.names;
-    })
+    (whole_built c.args.file.now rows root h c.in_ok-add_feature.ensures.so_far.names c.in-Some.is no_imports no_rules)
     cause)

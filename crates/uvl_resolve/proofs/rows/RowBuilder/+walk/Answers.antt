@@ -7,9 +7,10 @@ use Rattle.uvl_model.specs.declared.rows.FeatureNo.{FeatureNo}
 use Rattle.uvl_model.specs.declared.rows.GroupRow.{GroupRow}
 use Rattle.uvl_model.specs.Spelling.{group_rows_of_members}
 use Rattle.uvl_model.specs.Tree.{Groups, names_of_groups}
+use Rattle.uvl_base.specs.Limits.{most_features}
 use Rattle.uvl_resolve.specs.Built.{AreModelNames}
 use Rattle.uvl_resolve.specs.TreeOf.{AreGroups, AreMembers, bounds_of}
-use Rattle.uvl_resolve.specs.Walk.{AddsGroups}
+use Rattle.uvl_resolve.specs.steps.Walk.{AddsGroups}
 use Rattle.uvl_resolve.proofs.Loops.{GroupsGoOn, MembersGoOn, next_item, groups_step, groups_end, groups_stop, members_step, members_end, members_stop}
 use Rattle.uvl_resolve.proofs.Steps.{line_and_groups, filled}
 use Rattle.uvl_resolve.proofs.Stops.{same_fault, line_stop, below_stop, crowd_stop}
@@ -37,8 +38,8 @@ add_feature-returns-clause-added t c =
 
 pub add_group-returns-then-count-gt-MOST_FEATURES-clause-not_built : goal.add_group-returns-then-count-gt-MOST_FEATURES-clause-not_built
 add_group-returns-then-count-gt-MOST_FEATURES-clause-not_built t c = λ _ lo hi trees bounds say names.
-    let many : 2048 < length (out-Group c.args.group.now).members =
-    subst (λ (n : ℕ). 2048 < n) c.len-count.ensures c.if-count-gt-MOST_FEATURES.true in
+    let many : most_features < length (out-Group c.args.group.now).members =
+    subst (λ (n : ℕ). most_features < n) c.len-count.ensures c.if-count-gt-MOST_FEATURES.true in
     crowd_stop c.args.self.now.names (out-Group c.args.group.now).members many trees say names
 
 pub add_group-returns-clause-added : goal.add_group-returns-clause-added
