@@ -1,4 +1,4 @@
--- The limits of what is read: files, models, rules and scripts. They are this project's own.
+-- The limits of what is read: files, models, rules, numbers and scripts. They are this project's own.
 use Rattle.std.specs.Prelude.{ℕ}
 
 -- the most bytes of one file
@@ -22,9 +22,16 @@ abbrev pub most_rule_nodes : ℕ
 most_rule_nodes = 8192
 
 -- In how many right operands of `&`, `|`, `=>` and `<=>` a node of a rule stands at most: of one of each outside, and in
--- each of 128 brackets and `!`.
+-- each of `most_nesting` brackets and `!`.
 abbrev pub most_right_operands : ℕ
 most_right_operands = 516
+
+-- the most digits of a number in front of its point, and behind it
+abbrev pub most_whole_digits : ℕ
+most_whole_digits = 12
+
+abbrev pub most_decimals : ℕ
+most_decimals = 6
 
 -- the most bytes of a line of a script, without its line end
 abbrev pub most_line_bytes : ℕ

@@ -3,6 +3,7 @@ use Rattle.std.specs.Prelude.{ℕ, ◌+◌, ◌-◌, ◌*◌, ◌^◌, ℤ, pos,
 use Rattle.std.specs.List.{list_all, list_any, before_first, after_first}
 use Rattle.std.specs.Char.{is_ascii_digit}
 use Rattle.std.specs.Str.Parse.{digits_value}
+use Rattle.uvl_base.specs.Limits.{most_whole_digits, most_decimals}
 
 -- a number is negative where `-` stands in front
 abbrev pub is_negative : List ℕ → Bool
@@ -35,13 +36,13 @@ is_unsigned_number has_point whole behind =
 abbrev pub is_number : List ℕ → Bool
 is_number cs = is_unsigned_number (list_any is_point (unsigned cs)) (whole_digits cs) (decimals cs)
 
--- more digits than a number of this project has: 12 in front of the point, 6 behind it
+-- more digits than a number of this project has, in front of the point or behind it
 abbrev pub is_too_wide : List ℕ → Bool
-is_too_wide cs = nat_lt 12 (length (whole_digits cs)) || nat_lt 6 (length (decimals cs))
+is_too_wide cs = nat_lt most_whole_digits (length (whole_digits cs)) || nat_lt most_decimals (length (decimals cs))
 
 -- the millionths that whole digits and decimals write
 abbrev pub millionths_of_digits : List ℕ → List ℕ → ℕ
-millionths_of_digits whole behind = digits_value 10 whole * 1000000 + digits_value 10 behind * 10 ^ (6 - length behind)
+millionths_of_digits whole behind = digits_value 10 whole * 1000000 + digits_value 10 behind * 10 ^ (most_decimals - length behind)
 
 -- the number of millionths that is written
 abbrev pub millionths_of : List ℕ → ℤ

@@ -17,7 +17,7 @@ pub enum FaultKind {
     NotUtf8,
     /// E04: a character begins no token.
     BadCharacter,
-    /// E05: a shallower line meets no open level.
+    /// E05: a shallower line meets no open indentation.
     BadIndent,
     /// E06: a quote, a comment or a bracket is not closed.
     Unclosed,

@@ -3,8 +3,10 @@ ghost use Rattle.std.specs.Prelude.{◌≡◌, ◌↔◌, ◌<◌, ◌≤◌, �
 ghost use Rattle.std.specs.List.{list_all, list_any, before_first, after_first, position_or_len};
 ghost use Rattle.std.specs.Char.{is_ascii_digit};
 ghost use Rattle.std.specs.Str.Parse.{digits_value};
+ghost use Rattle.uvl_base.specs.Limits.{most_whole_digits, most_decimals};
 ghost use Rattle.uvl_base.specs.Number.{is_negative, unsigned, is_point, is_unsigned_number, is_number, is_too_wide, millionths_of_digits, millionths_of, InRange};
 
+use crate::limits::{MOST_DECIMALS, MOST_WHOLE_DIGITS};
 use std::marker::Model;
 use thiserror::Error;
 
@@ -52,7 +54,7 @@ impl Fixed {
         if !is_unsigned_number(has_point, whole, decimals) {
             return Err(NumberFault::Shape);
         }
-        if whole.len() > 12 || decimals.len() > 6 {
+        if whole.len() > MOST_WHOLE_DIGITS || decimals.len() > MOST_DECIMALS {
             return Err(NumberFault::TooWide);
         }
         let size = millionths_of_digits(whole, decimals) as i64;
@@ -131,19 +133,19 @@ fn are_digits(digits: &[u8]) -> bool
 fn millionths_of_digits(whole: &[u8], decimals: &[u8]) -> u64
     requires whole_digits { IsTrue (list_all is_ascii_digit whole.now) }
     requires decimal_digits { IsTrue (list_all is_ascii_digit decimals.now) }
-    requires whole_width { length whole.now ≤ 12 }
-    requires decimal_width { length decimals.now ≤ 6 }
+    requires whole_width { length whole.now ≤ most_whole_digits }
+    requires decimal_width { length decimals.now ≤ most_decimals }
     ensures value { result ≡ millionths_of_digits whole.now decimals.now }
     ensures in_range { result < 10 ^ 18 }
 {
-    let scale = 10u64.pow(6 - decimals.len() as u32);
+    let scale = 10u64.pow((MOST_DECIMALS - decimals.len()) as u32);
     value_of(whole) * 1_000_000 + value_of(decimals) * scale
 }
 
 /// The number that at most 12 digits write.
 fn value_of(digits: &[u8]) -> u64
     requires digits { IsTrue (list_all is_ascii_digit digits.now) }
-    requires width { length digits.now ≤ 12 }
+    requires width { length digits.now ≤ most_whole_digits }
     ensures value { result ≡ digits_value 10 digits.now }
     ensures small { result < 10 ^ length digits.now }
 {

@@ -1,4 +1,4 @@
-//! The limits of what is read: files, models, rules and scripts. They are this project's own.
+//! The limits of what is read: files, models, rules, numbers and scripts. They are this project's own.
 
 /// The most bytes of one file.
 pub const MOST_FILE_BYTES: usize = 8_388_608;
@@ -14,6 +14,12 @@ pub const MOST_NESTING: usize = 128;
 
 /// The most nodes of one rule: its literals, references, sums and operators.
 pub const MOST_RULE_NODES: usize = 8_192;
+
+/// The most digits of a number in front of its point.
+pub const MOST_WHOLE_DIGITS: usize = 12;
+
+/// The most digits of a number behind its point.
+pub const MOST_DECIMALS: usize = 6;
 
 /// The most bytes of a line of a script, without its line end.
 pub const MOST_LINE_BYTES: usize = 65_536;

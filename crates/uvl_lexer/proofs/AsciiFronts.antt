@@ -10,7 +10,7 @@ use Rattle.std.proofs.lemmas.List.{take-append-drop, length-take, get_or-take}
 use Rattle.std.proofs.lemmas.Str.{chars-nil, chars-append, chars-IsAscii, chars_past_char, encode_ascii, IsUtf8-from_ascii, IsUtf8-past_char, IsUtf8-drop, IsCharBoundary-start, IsCharBoundary-after_ascii}
 use Rattle.unicode_ident.proofs.IdentLemmas.{is_xid_continue-ascii}
 use Rattle.uvl_base.specs.Identifier.{continues_identifier}
-use Rattle.uvl_lexer.specs.Characters.{is_identifier_sign}
+use Rattle.uvl_lexer.specs.steps.Bytes.{is_identifier_sign}
 
 -- a text may be cut behind bytes of ASCII
 ascii_boundary : (text : List ℕ) (n : ℕ) → IsUtf8 text → n ≤ length text → IsAscii (take n text) → IsCharBoundary text n

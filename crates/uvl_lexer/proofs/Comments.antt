@@ -8,11 +8,12 @@ use Rattle.uvl_lexer.specs.declared.characters.CharacterClass.TheVariants.{InLin
 use Rattle.uvl_lexer.specs.declared.position.Position.{Position}
 use Rattle.uvl_lexer.specs.declared.brackets.Bracket.{Bracket}
 use Rattle.uvl_lexer.specs.declared.piece.PieceKind.TheVariants as piece
-use Rattle.uvl_lexer.specs.Cut.{Cut, Begins, comment_onto, comment_piece}
+use Rattle.uvl_lexer.specs.Cut.{Cut, Begins, comment_onto}
+use Rattle.uvl_lexer.specs.steps.Reading.{comment_piece}
 use Rattle.uvl_lexer.specs.Layout.{Units, units_of}
 use Rattle.uvl_lexer.specs.Pieces.{Piece}
 use Rattle.uvl_lexer.specs.Positions.{behind}
-use Rattle.uvl_lexer.specs.Reading.{comment_piece_at}
+use Rattle.uvl_lexer.specs.steps.Reading.{comment_piece_at}
 use Rattle.uvl_lexer.proofs.Laying.{comment_step, comment_split}
 
 abbrev position : ℕ → ℕ → ℕ → ℕ → Position

@@ -14,7 +14,7 @@ use Rattle.uvl_lexer.specs.Forms.{NoneBegins}
 use Rattle.uvl_lexer.specs.Layout.{Lexed, Units, Finished, Stopped, Refused, Ended, Spelled, Tokens, Stops, lexed, laid_out, lines_from, units_of, unit_onto, token_onto, break_onto, tokens_onto, refusal_of, token_of, brackets_behind, after_mark, front_of}
 use Rattle.uvl_lexer.specs.PieceByPiece.{SpelledPiece, IsCut, read_as, laid_by, TokensAreOfACut, StopsAreOfACut}
 use Rattle.uvl_lexer.specs.Positions.{behind}
-use Rattle.uvl_lexer.specs.Turns.{read_units, may_begin}
+use Rattle.uvl_lexer.specs.steps.Turns.{read_units, may_begin}
 use Rattle.uvl_lexer.proofs.Laying.{by_lines}
 use Rattle.uvl_lexer.proofs.OneCut.{cut_of, read_by, none_at_end}
 
@@ -49,12 +49,12 @@ refused_either : (b : Bool) (f g : Place × FaultKind) → IsRead (cond b (Err f
 refused_either true f g h = h
 refused_either false f g h = h
 
-finishes : (begun : Bool) (levels : List ℕ) (units : Units) → IsRead (read_units begun levels units) → Finishes units
-finishes begun levels (Finished p) h = tt
-finishes begun levels (Stopped p kind) h = h
-finishes begun levels (Refused p kind) h = refused_either (may_begin begun levels p) _ _ h
-finishes begun levels (Ended p rest) h = finishes false levels rest (behind_tokens _ _ h)
-finishes begun levels (Spelled p kind after rest) h = finishes true _ rest (behind_tokens _ _ (of_test (may_begin begun levels p) _ _ h))
+finishes : (begun : Bool) (indentations : List ℕ) (units : Units) → IsRead (read_units begun indentations units) → Finishes units
+finishes begun indentations (Finished p) h = tt
+finishes begun indentations (Stopped p kind) h = h
+finishes begun indentations (Refused p kind) h = refused_either (may_begin begun indentations p) _ _ h
+finishes begun indentations (Ended p rest) h = finishes false indentations rest (behind_tokens _ _ h)
+finishes begun indentations (Spelled p kind after rest) h = finishes true _ rest (behind_tokens _ _ (of_test (may_begin begun indentations p) _ _ h))
 
 behind_break : (brackets : List Bracket) (p : Position) (rest : Units) → Finishes (break_onto brackets p rest) → Finishes rest
 behind_break [] p rest h = h

@@ -19,12 +19,12 @@ use Rattle.uvl_lexer.specs.declared.piece.PieceKind.TheVariants as piece
 use Rattle.uvl_lexer.specs.Characters.{may_stand_in_text}
 use Rattle.uvl_lexer.specs.Cut.{Cut, Whole, Unread, Begins, cut, comment_onto, piece_onto}
 use Rattle.uvl_lexer.specs.Forms.{HasForm, HasTokenForm, IsText, IsNumber}
-use Rattle.uvl_lexer.specs.Layout.{Lexed, Units, Finished, Stopped, Refused, Ended, Spelled, inner, word_or_name, token_of, token_onto, break_onto, unit_onto, end_of, units_of, brackets_behind, tokens_onto, mark_at, token_at, dedents, front_of, after_mark}
-use Rattle.uvl_lexer.specs.Levels.{opens_level, closed_by}
+use Rattle.uvl_lexer.specs.Layout.{Lexed, Units, Finished, Stopped, Refused, Ended, Spelled, inner, word_or_name, token_of, token_onto, break_onto, unit_onto, end_of, units_of, brackets_behind, tokens_onto, unspelled_at, token_at, dedents, front_of, after_mark}
+use Rattle.uvl_lexer.specs.Indentations.{is_deeper, closed_by}
 use Rattle.uvl_lexer.specs.PieceByPiece.{SpelledPiece, IsCut, read_as}
 use Rattle.uvl_lexer.specs.Positions.{behind}
 use Rattle.uvl_lexer.specs.TokenList.{IsUnsigned, IsInner, AreInner, IsTokenList, TokensAreAList}
-use Rattle.uvl_lexer.specs.Turns.{read_units, read_through, marks_before, newline_at, levels_after, may_begin}
+use Rattle.uvl_lexer.specs.steps.Turns.{read_units, read_through, layout_before, newline_at, indentations_after, may_begin}
 use Rattle.uvl_lexer.proofs.Laying.{lexed-reads}
 use Rattle.uvl_lexer.proofs.Names.{identifier-is_name, quoted-is_name, inner_is}
 use Rattle.uvl_lexer.proofs.Numbers.{number-unsigned, number-no_decimals}
@@ -80,30 +80,30 @@ one_of_inner : (b : Bool) (xs ys : List Token) → AreInner xs → AreInner ys �
 one_of_inner true xs ys hx hy = hx
 one_of_inner false xs ys hx hy = hy
 
-dedents_inner : (indentation : ℕ) (levels : List ℕ) (p : Position) → AreInner (dedents indentation levels p)
-dedents_inner indentation levels p = inner_replicate (closed_by indentation levels) (mark_at token.Dedent p) tt
+dedents_inner : (indentation : ℕ) (indentations : List ℕ) (p : Position) → AreInner (dedents indentation indentations p)
+dedents_inner indentation indentations p = inner_replicate (closed_by indentation indentations) (unspelled_at token.Dedent p) tt
 
-marks_inner : (begun : Bool) (levels : List ℕ) (p : Position) → AreInner (marks_before begun levels p)
-marks_inner true levels p = tt
-marks_inner false levels p =
-    one_of_inner (opens_level p.reach levels) (mark_at token.Indent p ∷ []) (dedents p.reach levels p) (tt, tt) (dedents_inner p.reach levels p)
+marks_inner : (begun : Bool) (indentations : List ℕ) (p : Position) → AreInner (layout_before begun indentations p)
+marks_inner true indentations p = tt
+marks_inner false indentations p =
+    one_of_inner (is_deeper p.reach indentations) (unspelled_at token.Indent p ∷ []) (dedents p.reach indentations p) (tt, tt) (dedents_inner p.reach indentations p)
 
-finish_list : (p : Position) → IsTokenList (mark_at token.Finish p ∷ [])
-finish_list p = record { front = []; end = mark_at token.Finish p; joined = refl; finish = refl; inner = tt }
+finish_list : (p : Position) → IsTokenList (unspelled_at token.Finish p ∷ [])
+finish_list p = record { front = []; end = unspelled_at token.Finish p; joined = refl; finish = refl; inner = tt }
 
-read_list : (begun : Bool) (levels : List ℕ) (units : Units) → AreSound units → IsList (read_units begun levels units)
-read_list begun levels (Finished p) h =
-    list_onto (newline_at begun p ++ dedents 0 levels p) (mark_at token.Finish p ∷ [])
-    (inner_append (newline_at begun p) (dedents 0 levels p) (newline_inner begun p) (dedents_inner 0 levels p)) (finish_list p)
-read_list begun levels (Stopped p kind) h = tt
-read_list begun levels (Refused p kind) h = one_of_lists (may_begin begun levels p) _ _ tt tt
-read_list begun levels (Ended p rest) h =
-    tokens_list (newline_at begun p) (read_units false levels rest) (newline_inner begun p) (read_list false levels rest h)
-read_list begun levels (Spelled p kind after rest) h =
-    one_of_lists (may_begin begun levels p) _ _
-    (tokens_list (marks_before begun levels p ++ token_at kind p after ∷ []) (read_units true (levels_after begun levels p) rest)
-    (inner_append (marks_before begun levels p) (token_at kind p after ∷ []) (marks_inner begun levels p) (h.0, tt))
-    (read_list true (levels_after begun levels p) rest h.1))
+read_list : (begun : Bool) (indentations : List ℕ) (units : Units) → AreSound units → IsList (read_units begun indentations units)
+read_list begun indentations (Finished p) h =
+    list_onto (newline_at begun p ++ dedents 0 indentations p) (unspelled_at token.Finish p ∷ [])
+    (inner_append (newline_at begun p) (dedents 0 indentations p) (newline_inner begun p) (dedents_inner 0 indentations p)) (finish_list p)
+read_list begun indentations (Stopped p kind) h = tt
+read_list begun indentations (Refused p kind) h = one_of_lists (may_begin begun indentations p) _ _ tt tt
+read_list begun indentations (Ended p rest) h =
+    tokens_list (newline_at begun p) (read_units false indentations rest) (newline_inner begun p) (read_list false indentations rest h)
+read_list begun indentations (Spelled p kind after rest) h =
+    one_of_lists (may_begin begun indentations p) _ _
+    (tokens_list (layout_before begun indentations p ++ token_at kind p after ∷ []) (read_units true (indentations_after begun indentations p) rest)
+    (inner_append (layout_before begun indentations p) (token_at kind p after ∷ []) (marks_inner begun indentations p) (h.0, tt))
+    (read_list true (indentations_after begun indentations p) rest h.1))
     tt
 
 -- ---- what the spellings of tokens say

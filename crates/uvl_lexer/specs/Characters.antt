@@ -1,5 +1,5 @@
 -- The classes of characters that the tokens are made of.
-use Rattle.std.specs.Prelude.{ℕ, Bool, false, not, ◌&&◌, ◌||◌, ◌==◌, nat_lt, List, [], ◌∷◌}
+use Rattle.std.specs.Prelude.{ℕ, Bool, false, not, ◌||◌, ◌==◌, List, [], ◌∷◌}
 use Rattle.std.specs.Char.{is_ascii_digit}
 use Rattle.uvl_base.specs.Identifier.{continues_identifier}
 use Rattle.uvl_base.specs.Name.{may_stand_in_name}
@@ -21,14 +21,6 @@ is_of_class Digit c = is_ascii_digit c
 is_of_class InQuotes c = may_stand_in_name c
 is_of_class InText c = may_stand_in_text c
 is_of_class InLine c = stays_in_line c
-
--- whether a byte alone is a character of a class: those below 128 are characters
-abbrev pub is_byte_of_class : CharacterClass → ℕ → Bool
-is_byte_of_class class b = nat_lt b 128 && is_of_class class b
-
--- the characters of ASCII that go on an identifier and are no letters or digits: `_`, `#`, `%` and `?`
-abbrev pub is_identifier_sign : ℕ → Bool
-is_identifier_sign c = c == 95 || c == 35 || c == 37 || c == 63
 
 -- whether the first of some characters is this one
 abbrev pub begins_with : ℕ → List ℕ → Bool

@@ -2,7 +2,6 @@
 use Rattle.std.specs.Prelude.{ℕ, zero, suc, ◌-◌, ◌&&◌, ◌==◌, if◌then◌else◌, List, [], ◌∷◌, take, Option, Some, None}
 use Rattle.uvl_lexer.specs.declared.piece.PieceKind.{PieceKind}
 use Rattle.uvl_lexer.specs.declared.piece.PieceKind.TheVariants as piece
-use Rattle.uvl_lexer.specs.Characters.{begins_with}
 use Rattle.uvl_lexer.specs.Pieces.{Piece, piece_at}
 
 -- A text cut into pieces from its front on, each with its characters: to the end, or up to a place at
@@ -20,11 +19,6 @@ comment_onto (c ∷ d ∷ cs) rest =
     if c == 10 then Begins piece.Break (c ∷ []) (comment_onto (d ∷ cs) rest)
     else if c == 13 && d == 10 then Begins piece.Break (c ∷ d ∷ []) (comment_onto cs rest)
     else Begins piece.Space (c ∷ []) (comment_onto (d ∷ cs) rest)
-
--- how a comment's characters are counted: as a line break where a line ends there, else as a space
-abbrev pub comment_piece : ℕ → List ℕ → Piece
-comment_piece c cs =
-    if c == 10 then (piece.Break, 1) else if c == 13 && begins_with 10 cs then (piece.Break, 2) else (piece.Space, 1)
 
 -- a piece in front of a cut
 abbrev pub piece_onto : PieceKind → List ℕ → Cut → Cut

@@ -1,4 +1,4 @@
--- The tokens of a text, with the layout marks, or the first place at which it can't be read on.
+-- The tokens of a text, with the layout tokens, or the first place at which it can't be read on.
 use Rattle.std.specs.Prelude.{◌≡◌, ℕ, ◌-◌, Bool, true, false, not, ◌&&◌, ◌||◌, ◌==◌, if◌then◌else◌, List, [], ◌∷◌, ◌++◌, length, take, drop, replicate, Result, Ok, Err, Option, Some, None, encode_utf8_all}
 use Rattle.std.specs.List.{list_any}
 use Rattle.uvl_base.specs.declared.place.Place.{Place}
@@ -19,7 +19,7 @@ use Rattle.uvl_lexer.specs.declared.piece.Lexeme.TheVariants as spells
 use Rattle.uvl_lexer.specs.Brackets.{role_of, may_stand, open_behind}
 use Rattle.uvl_lexer.specs.Characters.{begins_with}
 use Rattle.uvl_lexer.specs.Cut.{Cut, Whole, Unread, Begins, cut}
-use Rattle.uvl_lexer.specs.Levels.{opens_level, is_aligned, levels_behind, closed_by}
+use Rattle.uvl_lexer.specs.Indentations.{is_deeper, is_aligned, indentations_behind, closed_by}
 use Rattle.uvl_lexer.specs.Positions.{start, place_of, behind, behind_mark}
 use Rattle.uvl_base.specs.ReservedWords.{word_of}
 
@@ -127,7 +127,7 @@ units_of position brackets (Begins kind cs rest) =
     unit_onto kind cs brackets position (behind kind position (length cs) (length (encode_utf8_all cs)))
     (units_of (behind kind position (length cs) (length (encode_utf8_all cs))) (brackets_behind kind brackets) rest)
 
--- ---- tokens and marks
+-- ---- tokens
 
 -- the tokens of a text, or the place at which it can't be read on, and why
 abbrev pub Lexed : Type 0
@@ -138,21 +138,22 @@ abbrev pub tokens_onto : List Token → Lexed → Lexed
 tokens_onto tokens (Ok others) = Ok (tokens ++ others)
 tokens_onto tokens (Err fault) = Err fault
 
--- a layout mark has no bytes
-abbrev pub mark_at : TokenKind → Position → Token
-mark_at kind p = record { kind = kind; place = place_of p; from = p.byte; to = p.byte }
+-- a layout token and the end of the text have no bytes
+abbrev pub unspelled_at : TokenKind → Position → Token
+unspelled_at kind p = record { kind = kind; place = place_of p; from = p.byte; to = p.byte }
 
 -- a token has the bytes that spell it
 abbrev pub token_at : TokenKind → Position → Position → Token
 token_at kind p after = record { kind = kind; place = place_of p; from = p.byte; to = after.byte }
 
--- one Dedent for each level that an indentation closes
+-- one Dedent for each indentation that a line closes
 abbrev pub dedents : ℕ → List ℕ → Position → List Token
-dedents indentation levels p = replicate (closed_by indentation levels) (mark_at token.Dedent p)
+dedents indentation indentations p = replicate (closed_by indentation indentations) (unspelled_at token.Dedent p)
 
--- the marks in front of the first token of a line: Indent where it opens a level, else a Dedent for each that it closes
-abbrev pub line_marks : List ℕ → Position → List Token
-line_marks levels p = if opens_level p.reach levels then mark_at token.Indent p ∷ [] else dedents p.reach levels p
+-- the layout tokens in front of the first token of a line: Indent where it opens an indentation, else a Dedent for each
+-- that it closes
+abbrev pub line_layout : List ℕ → Position → List Token
+line_layout indentations p = if is_deeper p.reach indentations then unspelled_at token.Indent p ∷ [] else dedents p.reach indentations p
 
 -- ---- lines
 
@@ -192,19 +193,20 @@ lines_from begun (Refused p kind) = broken_off begun p kind (RefusedFirst p kind
 lines_from begun (Ended p rest) = line_onto begun p (lines_from None rest)
 lines_from begun (Spelled p kind after rest) = lines_from (with_token begun p (token_at kind p after)) rest
 
--- ---- layout marks
+-- ---- layout
 
--- The tokens of lines with their layout marks, where these levels are open. The first token of a line meets an open
--- level or opens one; each line ends with Newline; at the end stand a Dedent for each level above 0, and Finish.
+-- The tokens of lines with their layout tokens, where these indentations are open. The first token of a line meets an
+-- open indentation or opens one; each line ends with Newline; at the end stand a Dedent for each open indentation above
+-- 0, and Finish.
 abbrev pub laid_out : List ℕ → Lines → Lexed
-laid_out levels (NoMore p) = Ok (dedents 0 levels p ++ mark_at token.Finish p ∷ [])
-laid_out levels (Unreadable p kind) = Err (place_of p, kind)
-laid_out levels (RefusedFirst p kind) = if is_aligned p.reach levels then Err (place_of p, kind) else Err (place_of p, BadIndent)
-laid_out levels (Line first tokens end rest) =
-    if is_aligned first.reach levels
-    then tokens_onto (line_marks levels first ++ tokens ++ mark_at token.Newline end ∷ []) (laid_out (levels_behind first.reach levels) rest)
+laid_out indentations (NoMore p) = Ok (dedents 0 indentations p ++ unspelled_at token.Finish p ∷ [])
+laid_out indentations (Unreadable p kind) = Err (place_of p, kind)
+laid_out indentations (RefusedFirst p kind) = if is_aligned p.reach indentations then Err (place_of p, kind) else Err (place_of p, BadIndent)
+laid_out indentations (Line first tokens end rest) =
+    if is_aligned first.reach indentations
+    then tokens_onto (line_layout indentations first ++ tokens ++ unspelled_at token.Newline end ∷ []) (laid_out (indentations_behind first.reach indentations) rest)
     else Err (place_of first, BadIndent)
-laid_out levels (BrokenOff first p kind) = if is_aligned first.reach levels then Err (place_of p, kind) else Err (place_of first, BadIndent)
+laid_out indentations (BrokenOff first p kind) = if is_aligned first.reach indentations then Err (place_of p, kind) else Err (place_of first, BadIndent)
 
 -- ---- the whole text
 

@@ -2,14 +2,13 @@ pub mod Brackets
 pub mod Characters
 pub mod Cut
 pub mod Forms
+pub mod Indentations
 pub mod Kinds
 pub mod Law
 pub mod Layout
-pub mod Levels
 pub mod Pieces
 pub mod PieceByPiece
 pub mod Positions
 pub mod Reading
-pub mod Spellings
 pub mod TokenList
-pub mod Turns
+pub mod steps

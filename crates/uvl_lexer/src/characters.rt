@@ -1,11 +1,12 @@
 //! The characters of a text, from its front on.
-ghost use Rattle.std.specs.Prelude.{◌≡◌, ◌<◌, ◌≤◌, [], ◌∷◌, ◌++◌, MatchOption, take, drop, length, slice_index, chars, encode_utf8, IsUtf8};
+ghost use Rattle.std.specs.Prelude.{◌≡◌, ◌<◌, ◌≤◌, [], ◌++◌, MatchOption, take, drop, length, slice_index, chars, IsUtf8};
 ghost use Rattle.std.specs.Bool.{OnTrue};
 ghost use Rattle.std.specs.List.{prefix_len};
 ghost use Rattle.std.specs.Str.{IsAscii};
 ghost use Rattle.uvl_base.specs.Identifier.{continues_identifier};
 ghost use Rattle.uvl_base.specs.Name.{may_stand_in_name};
-ghost use Rattle.uvl_lexer.specs.Characters.{is_of_class, is_byte_of_class, is_identifier_sign, begins_with, may_stand_in_text, stays_in_line};
+ghost use Rattle.uvl_lexer.specs.Characters.{is_of_class, begins_with, may_stand_in_text, stays_in_line};
+ghost use Rattle.uvl_lexer.specs.steps.Bytes.{is_byte_of_class, is_identifier_sign, first_beyond_ascii, IsSplit};
 
 use uvl_base::continues_identifier;
 
@@ -24,7 +25,7 @@ pub(crate) enum CharacterClass {
 
 /// The first character, and what follows it.
 pub(crate) fn split_first(text: &str) -> Option<(char, &str)>
-    ensures { MatchOption result (chars text.now ≡ []) (λ parts. (chars text.now ≡ parts.0 ∷ chars parts.1.now) × (text.now ≡ encode_utf8 parts.0 ++ parts.1.now)) }
+    ensures { MatchOption result (chars text.now ≡ []) (λ parts. IsSplit text.now parts.0 parts.1.now) }
 {
     let mut characters = text.chars();
     let first = characters.next()?;
@@ -69,7 +70,7 @@ fn count_bytes_while(bytes: &[u8], class: CharacterClass) -> usize
 
 /// Whether the byte at a place is a character of ASCII, or no byte is there.
 fn is_ascii_at(bytes: &[u8], place: usize) -> bool
-    ensures { OnTrue result (place < length bytes.now → slice_index bytes.now place < 128) }
+    ensures { OnTrue result (place < length bytes.now → slice_index bytes.now place < first_beyond_ascii) }
 {
     match bytes.get(place) {
         Some(byte) => byte.is_ascii(),
@@ -163,7 +164,7 @@ fn is_byte_of_class(class: CharacterClass, byte: u8) -> bool
 
 /// The same as `continues_identifier`, without a look into the tables of Unicode.
 fn continues_ascii_identifier(byte: u8) -> bool
-    requires { byte < 128 }
+    requires { byte < first_beyond_ascii }
     ensures { result ≡ continues_identifier byte }
 {
     byte.is_ascii_alphanumeric() || is_identifier_sign(byte)

@@ -1,5 +1,6 @@
 //! Comments, and the symbol that looks like their front.
 ghost use Rattle.std.specs.Prelude.{◌≡◌, ◌+◌, ◌<◌, ◌≤◌, IfSome, length, chars};
+ghost use Rattle.uvl_base.specs.Limits.{most_file_bytes};
 ghost use Rattle.uvl_lexer.specs.Pieces as spec;
 
 use crate::characters::{begins_with, split_first};
@@ -8,7 +9,7 @@ use crate::token::Symbol;
 
 /// What begins with a slash, behind it: a comment, where it is closed, or the symbol.
 pub(crate) fn slash_at(rest: &str) -> Option<(PieceKind, usize)>
-    requires { length (chars rest.now) < 8388608 }
+    requires { length (chars rest.now) < most_file_bytes }
     ensures piece { result ≡ spec.slash_at (chars rest.now) }
     ensures within { IfSome result (λ piece. (1 ≤ piece.1) × (piece.1 ≤ length (chars rest.now) + 1)) }
 {
@@ -24,7 +25,7 @@ pub(crate) fn slash_at(rest: &str) -> Option<(PieceKind, usize)>
 
 /// A comment that may go over lines, behind its front.
 fn block_at(rest: &str) -> Option<(PieceKind, usize)>
-    requires { length (chars rest.now) < 8388608 }
+    requires { length (chars rest.now) < most_file_bytes }
     ensures piece { result ≡ spec.block_at (chars rest.now) }
     ensures within { IfSome result (λ piece. (1 ≤ piece.1) × (piece.1 ≤ length (chars rest.now) + 2)) }
 {
@@ -36,7 +37,7 @@ fn block_at(rest: &str) -> Option<(PieceKind, usize)>
 
 /// How many characters stand in front of the end of the line.
 fn line_len(text: &str) -> usize
-    requires { length (chars text.now) < 8388608 }
+    requires { length (chars text.now) < most_file_bytes }
     ensures count { result ≡ spec.line_len (chars text.now) }
     ensures within { result ≤ length (chars text.now) }
 {
@@ -61,7 +62,7 @@ pub(crate) fn ends_line(first: char, rest: &str) -> bool
 
 /// How many characters there are up to and with the next `*/`.
 fn through_close(text: &str) -> Option<usize>
-    requires { length (chars text.now) < 8388608 }
+    requires { length (chars text.now) < most_file_bytes }
     ensures count { result ≡ spec.through_close (chars text.now) }
     ensures within { IfSome result (λ count. count ≤ length (chars text.now)) }
 {

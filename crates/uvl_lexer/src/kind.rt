@@ -33,14 +33,14 @@ impl TokenKind {
         matches!(self, TokenKind::Newline)
     }
 
-    /// Whether it opens a level of indentation.
+    /// Whether it opens an indentation.
     pub fn is_indent(&self) -> bool
         ensures { result ≡ spec.is_indent self.now }
     {
         matches!(self, TokenKind::Indent)
     }
 
-    /// Whether it closes a level of indentation.
+    /// Whether it closes an indentation.
     pub fn is_dedent(&self) -> bool
         ensures { result ≡ spec.is_dedent self.now }
     {

@@ -1,13 +1,15 @@
 //! The lexer.
-ghost use Rattle.std.specs.Prelude.{◌≡◌, ◌+◌, ◌≤◌, Ok, Err, IfOk, IfErr, IsErr, List, length, chars};
+ghost use Rattle.std.specs.Prelude.{◌≡◌, ◌+◌, ◌≤◌, Ok, IfOk, IfErr, IsErr, List, length, chars};
 ghost use Rattle.uvl_base.specs.declared.fault.FaultKind.{FaultKind};
 ghost use Rattle.uvl_base.specs.declared.place.Place.{Place};
+ghost use Rattle.uvl_base.specs.Limits.{most_file_bytes};
 ghost use Rattle.uvl_lexer.specs.declared.token.Token.{Token};
 ghost use Rattle.uvl_lexer.specs.Layout.{Tokens, Stops, after_mark, front_of};
 ghost use Rattle.uvl_lexer.specs.Positions.{IsSound};
-ghost use Rattle.uvl_lexer.specs.Reading.{OnFault};
+ghost use Rattle.uvl_lexer.specs.Reading.{OnFault, IsOutOfMemory};
 ghost use Rattle.uvl_lexer.specs.TokenList.{IsTokenList};
-ghost use Rattle.uvl_lexer.specs.Turns.{read_through};
+ghost use Rattle.uvl_lexer.specs.steps.Reading.{StopsAs};
+ghost use Rattle.uvl_lexer.specs.steps.Turns.{read_through};
 
 use crate::characters::{split_at_count, split_first};
 use crate::fault::LexFault;
@@ -17,17 +19,17 @@ use crate::reader::Reader;
 use crate::token::Token;
 use std::alloc::Global;
 
-/// The tokens of a text of at most 8,388,608 bytes, with its layout marks: the whole text is cut
+/// The tokens of a text of at most 8,388,608 bytes, with its layout tokens: the whole text is cut
 /// into tokens, spaces, tabs, line breaks and comments, each the longest that begins at its place.
 /// A text that has none is refused with the first place at which it can't be read on and, of the
 /// faults there, the one with the lowest number: `BadCharacter`, `BadIndent`, `Unclosed` or
 /// `NumberTooWide`. Nothing but want of memory refuses a text that has tokens.
 pub fn lex(alloc: Global, text: &str) -> Result<Vec<Token>, LexFault>
-    requires { length text.now ≤ 8388608 }
+    requires { length text.now ≤ most_file_bytes }
     ensures tokens { IfOk result (λ tokens. Tokens (chars text.now) tokens.items) }
     ensures list { IfOk result (λ tokens. IsTokenList tokens.items) }
     ensures stops { IfErr result (λ fault. OnFault fault (λ place kind. Stops (chars text.now) place kind)) }
-    ensures never_refused { (tokens : List Token) → Tokens (chars text.now) tokens → IfErr result (λ fault. fault ≡ LexFault.OutOfMemory) }
+    ensures never_refused { (tokens : List Token) → Tokens (chars text.now) tokens → IfErr result IsOutOfMemory }
     ensures never_read { (place : Place) (kind : FaultKind) → Stops (chars text.now) place kind → IsErr result }
 {
     read_text(alloc, text)
@@ -35,9 +37,9 @@ pub fn lex(alloc: Global, text: &str) -> Result<Vec<Token>, LexFault>
 
 /// Reads a text one piece after another.
 fn read_text(alloc: Global, text: &str) -> Result<Vec<Token>, LexFault>
-    requires { length text.now ≤ 8388608 }
+    requires { length text.now ≤ most_file_bytes }
     ensures tokens { IfOk result (λ tokens. read_through (chars text.now) ≡ Ok tokens.items) }
-    ensures stops { IfErr result (λ fault. OnFault fault (λ place kind. read_through (chars text.now) ≡ Err (place, kind))) }
+    ensures stops { IfErr result (StopsAs (read_through (chars text.now))) }
 {
     let (front, behind) = split_mark(text);
     let mut reader = Reader::new(alloc, front);
@@ -53,7 +55,7 @@ fn read_text(alloc: Global, text: &str) -> Result<Vec<Token>, LexFault>
 
 /// The position behind a byte order mark at the front, and what follows it.
 fn split_mark(text: &str) -> (Position, &str)
-    requires { length text.now ≤ 8388608 }
+    requires { length text.now ≤ most_file_bytes }
     ensures position { result.0 ≡ front_of (chars text.now) }
     ensures characters { chars result.1.now ≡ after_mark (chars text.now) }
     ensures sound { IsSound result.0 }

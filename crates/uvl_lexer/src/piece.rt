@@ -1,5 +1,6 @@
 //! The pieces of a text: tokens' spellings, spaces, tabs, line breaks and comments.
 ghost use Rattle.std.specs.Prelude.{◌≡◌, ◌+◌, ◌<◌, ◌≤◌, IfSome, length, chars};
+ghost use Rattle.uvl_base.specs.Limits.{most_file_bytes};
 ghost use Rattle.uvl_lexer.specs.Pieces as spec;
 
 use crate::characters::{CharacterClass, begins_with, count_while, split_at_count, split_first};
@@ -51,7 +52,7 @@ pub(crate) enum Opening {
 /// The longest piece that begins with the first character of the text, and how many characters it
 /// has. There is none where the text is empty, and where its first character begins no piece.
 pub(crate) fn piece_at(text: &str) -> Option<(PieceKind, usize)>
-    requires { length (chars text.now) ≤ 8388608 }
+    requires { length (chars text.now) ≤ most_file_bytes }
     ensures piece { result ≡ spec.piece_at (chars text.now) }
     ensures within { IfSome result (λ piece. (1 ≤ piece.1) × (piece.1 ≤ length (chars text.now))) }
 {
@@ -62,7 +63,7 @@ pub(crate) fn piece_at(text: &str) -> Option<(PieceKind, usize)>
 }
 
 fn piece_behind(opening: Opening, first: char, rest: &str) -> Option<(PieceKind, usize)>
-    requires { length (chars rest.now) < 8388608 }
+    requires { length (chars rest.now) < most_file_bytes }
     ensures piece { result ≡ spec.piece_behind opening first (chars rest.now) }
     ensures within { IfSome result (λ piece. (1 ≤ piece.1) × (piece.1 ≤ length (chars rest.now) + 1)) }
 {
@@ -120,7 +121,7 @@ fn opening_of_other(first: char) -> Opening
 
 /// A quoted name, behind its first quote.
 fn quoted_at(rest: &str) -> Option<(PieceKind, usize)>
-    requires { length (chars rest.now) < 8388608 }
+    requires { length (chars rest.now) < most_file_bytes }
     ensures piece { result ≡ spec.quoted_at (chars rest.now) }
     ensures within { IfSome result (λ piece. (1 ≤ piece.1) × (piece.1 ≤ length (chars rest.now) + 1)) }
 {
@@ -134,7 +135,7 @@ fn quoted_at(rest: &str) -> Option<(PieceKind, usize)>
 
 /// A text, behind its first quote.
 fn text_at(rest: &str) -> Option<(PieceKind, usize)>
-    requires { length (chars rest.now) < 8388608 }
+    requires { length (chars rest.now) < most_file_bytes }
     ensures piece { result ≡ spec.text_at (chars rest.now) }
     ensures within { IfSome result (λ piece. (1 ≤ piece.1) × (piece.1 ≤ length (chars rest.now) + 1)) }
 {
@@ -148,7 +149,7 @@ fn text_at(rest: &str) -> Option<(PieceKind, usize)>
 
 /// What begins with a point, behind it.
 fn point_at(rest: &str) -> (PieceKind, usize)
-    requires { length (chars rest.now) < 8388608 }
+    requires { length (chars rest.now) < most_file_bytes }
     ensures piece { result ≡ spec.point_at (chars rest.now) }
     ensures within { (1 ≤ result.1) × (result.1 ≤ length (chars rest.now) + 1) }
 {
@@ -165,7 +166,7 @@ fn point_at(rest: &str) -> (PieceKind, usize)
 
 /// A number, behind its first digit.
 fn number_at(rest: &str) -> (PieceKind, usize)
-    requires { length (chars rest.now) < 8388608 }
+    requires { length (chars rest.now) < most_file_bytes }
     ensures piece { result ≡ spec.number_at (chars rest.now) }
     ensures within { (1 ≤ result.1) × (result.1 ≤ length (chars rest.now) + 1) }
 {
@@ -177,7 +178,7 @@ fn number_at(rest: &str) -> (PieceKind, usize)
 
 /// How many characters a point and the digits behind it have.
 fn decimals_len(text: &str) -> usize
-    requires { length (chars text.now) < 8388608 }
+    requires { length (chars text.now) < most_file_bytes }
     ensures count { result ≡ spec.decimals_len (chars text.now) }
     ensures within { result ≤ length (chars text.now) }
 {
@@ -193,7 +194,7 @@ fn decimals_len(text: &str) -> usize
 
 /// An identifier, behind its first character.
 fn identifier_at(rest: &str) -> (PieceKind, usize)
-    requires { length (chars rest.now) < 8388608 }
+    requires { length (chars rest.now) < most_file_bytes }
     ensures piece { result ≡ spec.identifier_at (chars rest.now) }
     ensures within { (1 ≤ result.1) × (result.1 ≤ length (chars rest.now) + 1) }
 {

@@ -1,5 +1,6 @@
 //! Where the reading of a text stands.
 ghost use Rattle.std.specs.Prelude.{◌≡◌, ◌+◌, ◌≤◌};
+ghost use Rattle.uvl_base.specs.Limits.{most_file_bytes};
 ghost use Rattle.uvl_lexer.specs.Positions as spec;
 ghost use Rattle.uvl_lexer.specs.Positions.{IsSound};
 
@@ -46,7 +47,7 @@ impl Position {
     /// The position behind a piece of so many characters and bytes.
     pub(crate) fn behind(self, kind: PieceKind, count: u32, size: u32) -> Position
         requires sound { IsSound self }
-        requires room { self.byte + size ≤ 8388608 }
+        requires room { self.byte + size ≤ most_file_bytes }
         requires some { 1 ≤ count }
         requires characters { count ≤ size }
         ensures position { result ≡ spec.behind kind self count size }
@@ -78,7 +79,7 @@ impl Position {
     /// The position behind a byte order mark.
     pub(crate) fn behind_mark(self) -> Position
         requires sound { IsSound self }
-        requires room { self.byte + 3 ≤ 8388608 }
+        requires room { self.byte + 3 ≤ most_file_bytes }
         ensures position { result ≡ spec.behind_mark self }
         ensures sound { IsSound result }
     {

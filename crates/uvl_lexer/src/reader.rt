@@ -1,21 +1,22 @@
 //! The reader of a text: the tokens so far, and what the next ones depend on.
-ghost use Rattle.std.specs.Prelude.{◌≡◌, ◌+◌, ◌≤◌, [], ◌∷◌, ◌++◌, ◌&&◌, not, true, false, IfErr, IfSome, OnOk, None, IsTrue, length, chars};
+ghost use Rattle.std.specs.Prelude.{◌≡◌, ◌+◌, ◌≤◌, [], ◌∷◌, ◌&&◌, not, true, false, IfErr, IfSome, OnOk, Ok, None, IsTrue, length, chars};
+ghost use Rattle.uvl_base.specs.Limits.{most_file_bytes};
 ghost use Rattle.uvl_base.specs.Number.{is_number};
-ghost use Rattle.uvl_lexer.specs.Cut.{Cut, Begins, cut, comment_onto, comment_piece, piece_onto};
+ghost use Rattle.uvl_lexer.specs.Cut.{Begins, cut, comment_onto, piece_onto};
 ghost use Rattle.uvl_lexer.specs.Forms.{HasForm, HasTokenForm};
+ghost use Rattle.uvl_lexer.specs.Indentations.{kept_by};
 ghost use Rattle.uvl_lexer.specs.Layout as spec;
 ghost use Rattle.uvl_lexer.specs.Layout.{is_break, ends_line_at};
-ghost use Rattle.uvl_lexer.specs.Levels.{kept_by};
 ghost use Rattle.uvl_lexer.specs.Pieces.{piece_at};
 ghost use Rattle.uvl_lexer.specs.Positions.{place_of, IsSound};
-ghost use Rattle.uvl_lexer.specs.Reading.{read_on, OnFault, IsRefused, comment_piece_at};
-ghost use Rattle.uvl_lexer.specs.Spellings.{IsBlank};
-ghost use Rattle.uvl_lexer.specs.Turns.{may_begin, marks_before, levels_after, newline_at};
+ghost use Rattle.uvl_lexer.specs.steps.Reading.{read_on, may_begin_at, layout_at, dedents_at, indentations_at, refusal_at, tokens_at, newline_behind, lexeme_onto, Puts, BeginsLine, Reads, StopsAs, StopsIn, Stands, Refuses, comment_piece, comment_piece_at};
+ghost use Rattle.uvl_lexer.specs.steps.Spellings.{IsBlank};
+ghost use Rattle.uvl_lexer.specs.steps.Turns.{newline_at};
 
 use crate::brackets::{Brackets, Role, role_of};
 use crate::characters::{CharacterClass, begins_with, count_while, split_at_count, split_first};
 use crate::fault::LexFault;
-use crate::levels::Levels;
+use crate::indentations::Indentations;
 use crate::piece::{Lexeme, PieceKind};
 use crate::position::Position;
 use crate::spelling::{is_too_wide, token_of};
@@ -28,7 +29,7 @@ use uvl_base::FaultKind;
 pub(crate) struct Reader {
     /// The tokens so far.
     pub(crate) tokens: Vec<Token>,
-    pub(crate) levels: Levels,
+    pub(crate) indentations: Indentations,
     pub(crate) brackets: Brackets,
     /// Whether the line has a token already.
     pub(crate) begun: bool,
@@ -39,23 +40,23 @@ impl Reader {
     /// A reader at the front of a text, behind its byte order mark.
     pub(crate) fn new(alloc: Global, position: Position) -> Reader
         ensures tokens { result.tokens.items ≡ [] }
-        ensures levels { result.levels ≡ [] }
+        ensures indentations { result.indentations ≡ [] }
         ensures brackets { result.brackets ≡ [] }
         ensures begun { result.begun ≡ false }
         ensures position { result.position ≡ position }
     {
         Reader {
             tokens: Vec::new(alloc),
-            levels: Levels::new(alloc),
+            indentations: Indentations::new(alloc),
             brackets: Brackets::new(alloc),
             begun: false,
             position,
         }
     }
 
-    /// Appends a layout mark where the reader stands.
-    fn put_mark(&mut self, kind: TokenKind) -> Result<(), LexFault>
-        ensures tokens { OnOk result (self.new.tokens.items ≡ self.old.tokens.items ++ spec.mark_at kind self.old.position ∷ []) }
+    /// Appends a token without bytes where the reader stands: a layout token, or the end of the text.
+    fn put_unspelled(&mut self, kind: TokenKind) -> Result<(), LexFault>
+        ensures tokens { OnOk result (Puts self.old self.new (spec.unspelled_at kind self.old.position ∷ [])) }
         ensures others { self.new ≡ record self.old { tokens = self.new.tokens } }
         ensures memory { IfErr result (λ fault. fault ≡ LexFault.OutOfMemory) }
     {
@@ -70,7 +71,7 @@ impl Reader {
     }
 
     fn put(&mut self, token: Token) -> Result<(), LexFault>
-        ensures tokens { OnOk result (self.new.tokens.items ≡ self.old.tokens.items ++ token ∷ []) }
+        ensures tokens { OnOk result (Puts self.old self.new (token ∷ [])) }
         ensures others { self.new ≡ record self.old { tokens = self.new.tokens } }
         ensures memory { IfErr result (λ fault. fault ≡ LexFault.OutOfMemory) }
     {
@@ -80,41 +81,41 @@ impl Reader {
         }
     }
 
-    /// Closes the levels above an indentation, with a Dedent for each.
-    fn close_levels(&mut self, indentation: u32) -> Result<(), LexFault>
-        ensures tokens { OnOk result (self.new.tokens.items ≡ self.old.tokens.items ++ spec.dedents indentation self.old.levels self.old.position) }
-        ensures levels { OnOk result (self.new.levels ≡ kept_by indentation self.old.levels) }
-        ensures others { self.new ≡ record self.old { tokens = self.new.tokens; levels = self.new.levels } }
+    /// Closes the indentations above an indentation, with a Dedent for each.
+    fn close_indentations(&mut self, indentation: u32) -> Result<(), LexFault>
+        ensures tokens { OnOk result (Puts self.old self.new (dedents_at self.old indentation)) }
+        ensures indentations { OnOk result (self.new.indentations ≡ kept_by indentation self.old.indentations) }
+        ensures others { self.new ≡ record self.old { tokens = self.new.tokens; indentations = self.new.indentations } }
         ensures memory { IfErr result (λ fault. fault ≡ LexFault.OutOfMemory) }
     {
-        while self.levels.innermost() > indentation {
-            self.put_mark(TokenKind::Dedent)?;
-            self.levels.close();
+        while self.indentations.innermost() > indentation {
+            self.put_unspelled(TokenKind::Dedent)?;
+            self.indentations.close();
         }
         Ok(())
     }
 
-    /// Puts the marks in front of a token, where it is the first of its line.
+    /// Puts the layout tokens in front of a token, where it is the first of its line.
     fn begin_line(&mut self) -> Result<(), LexFault>
-        ensures aligned { OnOk result (may_begin self.old.begun self.old.levels self.old.position ≡ true) }
-        ensures tokens { OnOk result (self.new.tokens.items ≡ self.old.tokens.items ++ marks_before self.old.begun self.old.levels self.old.position) }
-        ensures levels { OnOk result (self.new.levels ≡ levels_after self.old.begun self.old.levels self.old.position) }
+        ensures aligned { OnOk result (may_begin_at self.old ≡ true) }
+        ensures tokens { OnOk result (Puts self.old self.new (layout_at self.old)) }
+        ensures indentations { OnOk result (self.new.indentations ≡ indentations_at self.old) }
         ensures begun { OnOk result (self.new.begun ≡ true) }
-        ensures others { self.new ≡ record self.old { tokens = self.new.tokens; levels = self.new.levels; begun = self.new.begun } }
-        ensures refused { IfErr result (λ fault. OnFault fault (λ place kind. IsRefused self.old None place kind)) }
+        ensures others { BeginsLine self.old self.new }
+        ensures refused { IfErr result (Refuses self.old None) }
     {
         if self.begun {
             return Ok(());
         }
         self.begun = true;
         let indentation = self.position.reach;
-        if self.levels.innermost() < indentation {
-            self.put_mark(TokenKind::Indent)?;
-            self.levels.open(indentation)?;
+        if self.indentations.innermost() < indentation {
+            self.put_unspelled(TokenKind::Indent)?;
+            self.indentations.open(indentation)?;
             return Ok(());
         }
-        self.close_levels(indentation)?;
-        if self.levels.innermost() != indentation {
+        self.close_indentations(indentation)?;
+        if self.indentations.innermost() != indentation {
             return Err(self.fault(FaultKind::BadIndent));
         }
         Ok(())
@@ -132,13 +133,13 @@ impl Reader {
 
     /// Ends the line at a line break outside brackets.
     fn end_line(&mut self) -> Result<(), LexFault>
-        ensures tokens { OnOk result (self.new.tokens.items ≡ self.old.tokens.items ++ newline_at self.old.begun self.old.position) }
+        ensures tokens { OnOk result (Puts self.old self.new (newline_at self.old.begun self.old.position)) }
         ensures begun { OnOk result (self.new.begun ≡ false) }
         ensures others { self.new ≡ record self.old { tokens = self.new.tokens; begun = self.new.begun } }
         ensures memory { IfErr result (λ fault. fault ≡ LexFault.OutOfMemory) }
     {
         if self.begun {
-            self.put_mark(TokenKind::Newline)?;
+            self.put_unspelled(TokenKind::Newline)?;
             self.begun = false;
         }
         Ok(())
@@ -146,7 +147,7 @@ impl Reader {
 
     /// Ends the line where the piece is a line break outside brackets.
     fn end_line_at(&mut self, kind: PieceKind) -> Result<(), LexFault>
-        ensures tokens { OnOk result (self.new.tokens.items ≡ self.old.tokens.items ++ newline_at (self.old.begun && ends_line_at kind self.old.brackets) self.old.position) }
+        ensures tokens { OnOk result (Puts self.old self.new (newline_behind self.old kind)) }
         ensures begun { OnOk result (self.new.begun ≡ (self.old.begun && not (ends_line_at kind self.old.brackets))) }
         ensures others { self.new ≡ record self.old { tokens = self.new.tokens; begun = self.new.begun } }
         ensures memory { IfErr result (λ fault. fault ≡ LexFault.OutOfMemory) }
@@ -212,13 +213,13 @@ impl Reader {
     ) -> Result<(), LexFault>
         requires count { count ≡ length (chars spelling.now) }
         requires spelled { HasTokenForm lexeme (chars spelling.now) }
-        ensures stands { OnOk result ((may_begin self.old.begun self.old.levels self.old.position ≡ true) × (spec.refusal_of lexeme (chars spelling.now) self.old.brackets ≡ None)) }
-        ensures tokens { OnOk result (self.new.tokens.items ≡ self.old.tokens.items ++ (marks_before self.old.begun self.old.levels self.old.position ++ spec.token_at (spec.token_of lexeme (chars spelling.now)) self.old.position after ∷ [])) }
-        ensures levels { OnOk result (self.new.levels ≡ levels_after self.old.begun self.old.levels self.old.position) }
+        ensures stands { OnOk result (Stands self.old (refusal_at self.old lexeme (chars spelling.now))) }
+        ensures tokens { OnOk result (Puts self.old self.new (tokens_at self.old lexeme (chars spelling.now) after)) }
+        ensures indentations { OnOk result (self.new.indentations ≡ indentations_at self.old) }
         ensures brackets { OnOk result (self.new.brackets ≡ spec.brackets_behind_token lexeme self.old.brackets) }
         ensures begun { OnOk result (self.new.begun ≡ true) }
         ensures position { self.new.position ≡ self.old.position }
-        ensures refused { IfErr result (λ fault. OnFault fault (λ place kind. IsRefused self.old (spec.refusal_of lexeme (chars spelling.now) self.old.brackets) place kind)) }
+        ensures refused { IfErr result (Refuses self.old (refusal_at self.old lexeme (chars spelling.now))) }
     {
         self.begin_line()?;
         if let Some(kind) = self.refusal_of(lexeme, spelling) {
@@ -243,12 +244,12 @@ impl Reader {
         spelling: &str,
     ) -> Result<(), LexFault>
         requires sound { IsSound self.old.position }
-        requires room { self.old.position.byte + length spelling.now ≤ 8388608 }
+        requires room { self.old.position.byte + length spelling.now ≤ most_file_bytes }
         requires count { count ≡ length (chars spelling.now) }
         requires some { 1 ≤ count }
         requires spelled { HasTokenForm lexeme (chars spelling.now) }
-        ensures read { OnOk result ((rest : Cut) → read_on self.old (Begins (PieceKind.Lexeme lexeme) (chars spelling.now) rest) ≡ read_on self.new rest) }
-        ensures refused { IfErr result (λ fault. OnFault fault (λ place why. (rest : Cut) → read_on self.old (Begins (PieceKind.Lexeme lexeme) (chars spelling.now) rest) ≡ Err (place, why))) }
+        ensures read { OnOk result (Reads self.old self.new (lexeme_onto lexeme (chars spelling.now))) }
+        ensures refused { IfErr result (StopsIn self.old (lexeme_onto lexeme (chars spelling.now))) }
         ensures sound { OnOk result (IsSound self.new.position) }
         ensures byte { OnOk result (self.new.position.byte ≡ self.old.position.byte + length spelling.now) }
     {
@@ -264,11 +265,11 @@ impl Reader {
     /// Takes a space, a tab or a line break.
     fn take_blank(&mut self, kind: PieceKind, count: usize, spelling: &str) -> Result<(), LexFault>
         requires sound { IsSound self.old.position }
-        requires room { self.old.position.byte + length spelling.now ≤ 8388608 }
+        requires room { self.old.position.byte + length spelling.now ≤ most_file_bytes }
         requires count { count ≡ length (chars spelling.now) }
         requires some { 1 ≤ count }
         requires blank { IsBlank kind }
-        ensures read { OnOk result ((rest : Cut) → read_on self.old (Begins kind (chars spelling.now) rest) ≡ read_on self.new rest) }
+        ensures read { OnOk result (Reads self.old self.new (λ rest. Begins kind (chars spelling.now) rest)) }
         ensures memory { IfErr result (λ fault. fault ≡ LexFault.OutOfMemory) }
         ensures sound { OnOk result (IsSound self.new.position) }
         ensures byte { OnOk result (self.new.position.byte ≡ self.old.position.byte + length spelling.now) }
@@ -283,8 +284,8 @@ impl Reader {
     /// Takes a comment: its characters count as spaces, and its line breaks stay line breaks.
     fn take_comment(&mut self, comment: &str) -> Result<(), LexFault>
         requires sound { IsSound self.old.position }
-        requires room { self.old.position.byte + length comment.now ≤ 8388608 }
-        ensures read { OnOk result ((rest : Cut) → read_on self.old (comment_onto (chars comment.now) rest) ≡ read_on self.new rest) }
+        requires room { self.old.position.byte + length comment.now ≤ most_file_bytes }
+        ensures read { OnOk result (Reads self.old self.new (comment_onto (chars comment.now))) }
         ensures memory { IfErr result (λ fault. fault ≡ LexFault.OutOfMemory) }
         ensures sound { OnOk result (IsSound self.new.position) }
         ensures byte { OnOk result (self.new.position.byte ≡ self.old.position.byte + length comment.now) }
@@ -307,12 +308,12 @@ impl Reader {
         spelling: &str,
     ) -> Result<(), LexFault>
         requires sound { IsSound self.old.position }
-        requires room { self.old.position.byte + length spelling.now ≤ 8388608 }
+        requires room { self.old.position.byte + length spelling.now ≤ most_file_bytes }
         requires count { count ≡ length (chars spelling.now) }
         requires some { 1 ≤ count }
         requires spelled { HasForm kind (chars spelling.now) }
-        ensures read { OnOk result ((rest : Cut) → read_on self.old (piece_onto kind (chars spelling.now) rest) ≡ read_on self.new rest) }
-        ensures refused { IfErr result (λ fault. OnFault fault (λ place why. (rest : Cut) → read_on self.old (piece_onto kind (chars spelling.now) rest) ≡ Err (place, why))) }
+        ensures read { OnOk result (Reads self.old self.new (piece_onto kind (chars spelling.now))) }
+        ensures refused { IfErr result (StopsIn self.old (piece_onto kind (chars spelling.now))) }
         ensures sound { OnOk result (IsSound self.new.position) }
         ensures byte { OnOk result (self.new.position.byte ≡ self.old.position.byte + length spelling.now) }
     {
@@ -330,7 +331,7 @@ impl Reader {
     pub(crate) fn end(&mut self, rest: &str) -> Result<(), LexFault>
         requires { piece_at (chars rest.now) ≡ None }
         ensures read { OnOk result (read_on self.old (cut (chars rest.now)) ≡ Ok self.new.tokens.items) }
-        ensures refused { IfErr result (λ fault. OnFault fault (λ place why. read_on self.old (cut (chars rest.now)) ≡ Err (place, why))) }
+        ensures refused { IfErr result (StopsAs (read_on self.old (cut (chars rest.now)))) }
     {
         if let Some(parts) = split_first(rest) {
             return Err(self.fault(fault_at(parts.0, parts.1)));
@@ -339,8 +340,8 @@ impl Reader {
             return Err(self.fault(FaultKind::Unclosed));
         }
         self.end_line()?;
-        self.close_levels(0)?;
-        self.put_mark(TokenKind::Finish)?;
+        self.close_indentations(0)?;
+        self.put_unspelled(TokenKind::Finish)?;
         Ok(())
     }
 
@@ -350,7 +351,7 @@ impl Reader {
     {
         let Reader {
             tokens,
-            levels: _,
+            indentations: _,
             brackets: _,
             begun: _,
             position: _,

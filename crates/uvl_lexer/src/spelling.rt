@@ -7,7 +7,7 @@ ghost use Rattle.uvl_base.specs.ReservedWords.{word_of};
 ghost use Rattle.uvl_lexer.specs.Forms.{HasTokenForm};
 ghost use Rattle.uvl_lexer.specs.declared.token.TokenKind.TheVariants as token;
 ghost use Rattle.uvl_lexer.specs.Layout as spec;
-ghost use Rattle.uvl_lexer.specs.Spellings.{IsReadable};
+ghost use Rattle.uvl_lexer.specs.steps.Spellings.{IsReadable};
 
 use crate::characters::split_at_count;
 use crate::fault::LexFault;

@@ -8,7 +8,7 @@ pub struct Token {
     pub place: Place,
     /// The byte of the text at which the token begins.
     pub from: u32,
-    /// The byte behind its last; a layout mark has no bytes.
+    /// The byte behind its last; a layout token has no bytes.
     pub to: u32,
 }
 
@@ -26,7 +26,7 @@ pub enum TokenKind {
     Symbol(Symbol),
     /// A line is indented further than the line in front of it.
     Indent,
-    /// A line closes a level of indentation.
+    /// A line closes an open indentation.
     Dedent,
     /// The end of a line with a token.
     Newline,

@@ -6,7 +6,7 @@ use Rattle.std.proofs.lemmas.Bool.{cases_Bool, cond-true, cond-false, false≢tr
 use Rattle.std.proofs.lemmas.Str.{chars-nil, IsUtf8-from_is_utf8, is_utf8-from_IsUtf8}
 use Rattle.uvl_script.specs.Lines.{is_silent, words_or_fault, words_of_text, words_of_line}
 use Rattle.uvl_script.specs.Words.{words_of, onto}
-use Rattle.uvl_script.specs.steps.Answers.{onto_all}
+use Rattle.uvl_script.specs.steps.Pieces.{onto_all}
 use Rattle.uvl_script.specs.declared.fault.WordFault.TheVariants.{BadUtf8, BadName}
 
 -- ---- words one after another

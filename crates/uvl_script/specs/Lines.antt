@@ -34,6 +34,10 @@ words_of_text text = if is_silent text then Ok [] else words_or_fault (words_of 
 abbrev pub words_of_line : List ℕ → Result (List (List ℕ)) WordFault
 words_of_line line = if is_utf8 line then words_of_text (chars line) else Err word_fault.BadUtf8
 
+-- the words of a line that may end with CR
+abbrev pub words_of_ended : List ℕ → Result (List (List ℕ)) WordFault
+words_of_ended line = words_of_line (without_cr line)
+
 -- a line that has words has an answer
 abbrev pub some_command : Result Command LineFault → Result (Option Command) LineFault
 some_command (Ok command) = Ok (Some command)
@@ -55,4 +59,4 @@ reading_of_words (Err fault) = Err (line_fault_of fault)
 abbrev pub reading_of : List ℕ → Result (Option Command) LineFault
 reading_of line =
     if nat_lt most_line_bytes (length (without_cr line)) then Err line_fault.TooLong
-    else reading_of_words (words_of_line (without_cr line))
+    else reading_of_words (words_of_ended line)

@@ -1,8 +1,8 @@
 //! The commands of a script.
-ghost use Rattle.std.specs.Prelude.{◌≡◌, ◌⊎◌, chars, Some, IsSome, IfSome, IfOk, IfErr, IsTrue};
+ghost use Rattle.std.specs.Prelude.{◌≡◌, chars, Some, IsSome, IfOk, IfErr};
 ghost use Rattle.uvl_script.specs.Commands as spec;
 ghost use Rattle.uvl_script.specs.Words.{words_of};
-ghost use Rattle.uvl_script.specs.steps.Answers.{IsAnsweredBy};
+ghost use Rattle.uvl_script.specs.steps.Answers.{AnswersWords};
 
 use crate::fault::LineFault;
 use crate::words::{copy_words, is_blank};
@@ -32,7 +32,7 @@ pub(crate) enum CommandName {
 /// The command of this name with the words of `text` behind it.
 pub(crate) fn command_of(alloc: Global, name: &str, text: &str) -> Result<Command, LineFault>
     requires { IsSome (words_of (chars text.now)) }
-    ensures { IfSome (words_of (chars text.now)) (λ words. IsAnsweredBy (spec.command_of (chars name.now) words) result) }
+    ensures { AnswersWords text.now (spec.command_of (chars name.now)) result }
 {
     match command_named(name) {
         Some(name) => command_with(alloc, name, text),
@@ -54,7 +54,7 @@ fn command_named(name: &str) -> Option<CommandName>
 /// The command that is called so, with the words of `text` behind its name.
 fn command_with(alloc: Global, name: CommandName, text: &str) -> Result<Command, LineFault>
     requires { IsSome (words_of (chars text.now)) }
-    ensures { IfSome (words_of (chars text.now)) (λ words. IsAnsweredBy (spec.command_with name words) result) }
+    ensures { AnswersWords text.now (spec.command_with name) result }
 {
     match name {
         CommandName::Valid => Ok(Command::Valid(any_names(alloc, text)?)),
@@ -74,7 +74,7 @@ fn any_names(alloc: Global, text: &str) -> Result<Names, LineFault>
 /// A command that takes no words.
 fn without_words(command: Command, text: &str) -> Result<Command, LineFault>
     requires { IsSome (words_of (chars text.now)) }
-    ensures { IfSome (words_of (chars text.now)) (λ words. IsAnsweredBy (spec.without_words command words) result) }
+    ensures { AnswersWords text.now (spec.without_words command) result }
 {
     if is_blank(text) {
         Ok(command)

@@ -1,8 +1,8 @@
 //! The reading of a line.
 ghost use Rattle.std.specs.Prelude.{◌≡◌, ◌⊎◌, chars, None, Some, Ok, Err, IfOk, IfErr, IfSome, IsOk, IsSome, []};
-ghost use Rattle.uvl_script.specs.Lines.{without_cr, is_silent, words_of_line, reading_of, reading_of_words};
+ghost use Rattle.uvl_script.specs.Lines.{without_cr, is_silent, words_of_line, words_of_ended, reading_of, reading_of_words};
 ghost use Rattle.uvl_script.specs.Words.{words_of};
-ghost use Rattle.uvl_script.specs.steps.Answers.{IsAnswered};
+ghost use Rattle.uvl_script.specs.steps.Answers.{IsAnswered, HasWordsOf};
 
 use crate::command::{Command, command_of};
 use crate::fault::{LineFault, WordFault};
@@ -41,10 +41,10 @@ fn read_words(alloc: Global, line: &[u8]) -> Result<Option<Command>, LineFault>
 /// is blank, or whose first character but spaces and tabs is `#`, has none, and takes no memory. A
 /// line has no longest length here.
 pub fn split_words(alloc: Global, line: &[u8]) -> Result<Vec<Name>, WordFault>
-    ensures words { IfOk result (λ words. words_of_line (without_cr line.now) ≡ Ok words.items) }
-    ensures cause { IfErr result (λ fault. (words_of_line (without_cr line.now) ≡ Err fault) ⊎ (fault ≡ WordFault.OutOfMemory)) }
-    ensures refused { IfErr (words_of_line (without_cr line.now)) (λ fault. result ≡ Err fault) }
-    ensures silent { words_of_line (without_cr line.now) ≡ Ok [] → IsOk result }
+    ensures words { IfOk result (λ words. words_of_ended line.now ≡ Ok words.items) }
+    ensures cause { IfErr result (λ fault. (words_of_ended line.now ≡ Err fault) ⊎ (fault ≡ WordFault.OutOfMemory)) }
+    ensures refused { IfErr (words_of_ended line.now) (λ fault. result ≡ Err fault) }
+    ensures silent { words_of_ended line.now ≡ Ok [] → IsOk result }
 {
     let text = text_of_words(without_cr(line))?;
     Ok(copy_words(alloc, text)?)
@@ -52,7 +52,7 @@ pub fn split_words(alloc: Global, line: &[u8]) -> Result<Vec<Name>, WordFault>
 
 /// The text of a line without its line end, as far as it holds words: none where it has no reply.
 fn text_of_words(line: &[u8]) -> Result<&str, WordFault>
-    ensures words { IfOk result (λ text. IfSome (words_of (chars text.now)) (λ words. words_of_line line.now ≡ Ok words)) }
+    ensures words { IfOk result (λ text. HasWordsOf line.now text.now) }
     ensures cut { IfOk result (λ text. IsSome (words_of (chars text.now))) }
     ensures fault { IfErr result (λ fault. words_of_line line.now ≡ Err fault) }
 {

@@ -1,9 +1,9 @@
 //! The words of a text.
-ghost use Rattle.std.specs.Prelude.{⊤, List, ℕ, ◌≡◌, ◌↔◌, ◌≤◌, ◌<◌, [], ◌∷◌, ◌++◌, drop, length, chars, Some, None, IsTrue, IsFalse, IsOk, IsSome, IfOk, OnErr, is_some, MatchOption, MatchResult};
+ghost use Rattle.std.specs.Prelude.{⊤, List, ℕ, ◌≡◌, ◌↔◌, ◌≤◌, ◌<◌, [], ◌++◌, drop, length, chars, Some, None, IsTrue, IsFalse, IsOk, IsSome, IfOk, OnErr, is_some, MatchOption};
 ghost use Rattle.std.specs.List.{list_all, prefix_len};
 ghost use Rattle.uvl_base.specs.Name.{is_name};
-ghost use Rattle.uvl_script.specs.Words.{is_separator, is_solid, is_unquote, ends_word, outside, in_quotes, cut, onto, words_of, IsMadeOf};
-ghost use Rattle.uvl_script.specs.steps.Answers.{onto_all};
+ghost use Rattle.uvl_script.specs.Words.{is_separator, is_solid, ends_word, words_of, IsMadeOf};
+ghost use Rattle.uvl_script.specs.steps.Pieces.{IsFirstWord, IsFrontWord, IsQuotedFront};
 
 use crate::fault::WordFault;
 use std::alloc::{AllocError, Global};
@@ -69,7 +69,7 @@ pub(crate) fn is_blank(text: &str) -> bool
 /// The first word of a text with what stands behind it, or none where the text is blank. It is
 /// refused as `BadName` where the text isn't cut there, or the word is no name.
 pub(crate) fn split_word(text: &str) -> Result<Option<(&str, &str)>, WordFault>
-    ensures first { IfOk result (λ first. MatchOption first (words_of (chars text.now) ≡ Some []) (λ parts. words_of (chars text.now) ≡ onto (chars parts.0.now) (words_of (chars parts.1.now)))) }
+    ensures first { IfOk result (λ first. IsFirstWord text.now first) }
     ensures name { IfOk result (λ first. MatchOption first ⊤ (λ parts. IsTrue (is_name (chars parts.0.now)))) }
     ensures shorter { IfOk result (λ first. MatchOption first ⊤ (λ parts. length parts.1.now < length text.now)) }
     ensures bad_name { OnErr result (words_of (chars text.now) ≡ None) }
@@ -104,7 +104,7 @@ fn separators_in_front(bytes: &[u8]) -> usize
 /// word isn't closed, or is closed and no separator follows.
 fn front_word(text: &str) -> Option<(&str, &str)>
     requires { IsFalse (ends_word text.now) }
-    ensures { MatchOption result (cut outside (chars text.now) ≡ None) (λ parts. (cut outside (chars text.now) ≡ onto (chars parts.0.now) (cut outside (chars parts.1.now))) × (length parts.1.now < length text.now)) }
+    ensures { IsFrontWord text.now result }
 {
     match text.strip_prefix('"') {
         Some(quoted) => split_quoted(quoted),
@@ -114,7 +114,7 @@ fn front_word(text: &str) -> Option<(&str, &str)>
 
 /// The text up to a quote, and what stands behind that quote, where a word may end there.
 fn split_quoted(text: &str) -> Option<(&str, &str)>
-    ensures { MatchOption result (cut in_quotes (chars text.now) ≡ None) (λ parts. (cut in_quotes (chars text.now) ≡ onto (chars parts.0.now) (cut outside (chars parts.1.now))) × (length parts.1.now ≤ length text.now)) }
+    ensures { IsQuotedFront text.now result }
 {
     let Some((word, rest)) = text.split_once('"') else {
         return None;

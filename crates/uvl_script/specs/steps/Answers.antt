@@ -1,5 +1,7 @@
 -- What the calls that read a line answer on their way.
-use Rattle.std.specs.Prelude.{◌≡◌, ◌⊎◌, ℕ, List, ◌++◌, Option, Some, None, Result, Ok, Err}
+use Rattle.std.specs.Prelude.{◌≡◌, ◌⊎◌, ℕ, List, Option, Some, None, Result, Ok, Err, IfSome, chars}
+use Rattle.uvl_script.specs.Lines.{words_of_line}
+use Rattle.uvl_script.specs.Words.{words_of}
 use Rattle.uvl_script.specs.declared.command.Command.{Command}
 use Rattle.uvl_script.specs.declared.fault.LineFault.{LineFault}
 use Rattle.uvl_script.specs.declared.fault.LineFault.TheVariants.{OutOfMemory}
@@ -15,7 +17,10 @@ IsAnswered (Ok (Some command)) result = (result ≡ Ok (Some command)) ⊎ (resu
 IsAnswered (Ok None) result = result ≡ Ok None
 IsAnswered (Err fault) result = result ≡ Err fault
 
--- words in front of the words behind them
-abbrev pub onto_all : List (List ℕ) → Option (List (List ℕ)) → Option (List (List ℕ))
-onto_all words None = None
-onto_all words (Some more) = Some (words ++ more)
+-- what a text has words for is answered as it is
+abbrev pub AnswersWords : List ℕ → (List (List ℕ) → Result Command LineFault) → Result Command LineFault → Type 0
+AnswersWords text answer result = IfSome (words_of (chars text)) (λ words. IsAnsweredBy (answer words) result)
+
+-- the words of a text, where it has some, are those of a line
+abbrev pub HasWordsOf : List ℕ → List ℕ → Type 0
+HasWordsOf line text = IfSome (words_of (chars text)) (λ words. words_of_line line ≡ Ok words)

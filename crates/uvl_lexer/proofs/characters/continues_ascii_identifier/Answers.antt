@@ -1,6 +1,6 @@
 -- The characters of ASCII that go on an identifier.
 use Rattle.std.proofs.Common.{Bool, ◌||◌, sym, ap, ◌∙◌}
-use Rattle.uvl_lexer.specs.Characters.{is_identifier_sign}
+use Rattle.uvl_lexer.specs.steps.Bytes.{is_identifier_sign}
 use Rattle.uvl_lexer.proofs.AsciiFronts.{continues_is}
 use Rattle.uvl_lexer.proofs.characters.continues_ascii_identifier.Goals as goal
 

@@ -3,7 +3,8 @@ use Rattle.std.proofs.Common.{◌≡◌, ◌<◌, ℕ, List, length, get_or, ap,
 use Rattle.std.specs.Prelude.{chars}
 use Rattle.std.specs.List.{prefix_len}
 use Rattle.std.proofs.lemmas.List.Sums.{prefix_len-le-length}
-use Rattle.uvl_lexer.specs.Characters.{is_of_class, is_byte_of_class}
+use Rattle.uvl_lexer.specs.Characters.{is_of_class}
+use Rattle.uvl_lexer.specs.steps.Bytes.{is_byte_of_class}
 use Rattle.uvl_lexer.proofs.AsciiFronts.{ascii_count}
 use Rattle.uvl_lexer.proofs.characters.count_while.Goals as goal
 

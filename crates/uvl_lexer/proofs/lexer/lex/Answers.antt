@@ -9,7 +9,7 @@ use Rattle.uvl_lexer.specs.declared.token.Token.{Token}
 use Rattle.uvl_lexer.specs.Layout.{Lexed}
 use Rattle.uvl_lexer.specs.Reading.{OnFault}
 use Rattle.uvl_lexer.specs.TokenList.{IsTokenList}
-use Rattle.uvl_lexer.specs.Turns.{read_through}
+use Rattle.uvl_lexer.specs.steps.Turns.{read_through}
 use Rattle.uvl_lexer.proofs.Laying.{lexed-reads}
 use Rattle.uvl_lexer.proofs.TokenLists.{tokens_are_a_list}
 use Rattle.uvl_lexer.proofs.lexer.lex.Goals as goal

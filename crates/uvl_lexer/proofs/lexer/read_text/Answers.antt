@@ -3,9 +3,9 @@ use Rattle.std.proofs.Common.{◌≡◌, ℕ, List, ◌≤◌, Some, Err, length
 use Rattle.std.specs.Prelude.{chars}
 use Rattle.std.proofs.lemmas.Result.{err_from_is_err_and}
 use Rattle.uvl_lexer.specs.Cut.{Cut, cut, piece_onto}
-use Rattle.uvl_lexer.specs.Turns.{read_through}
+use Rattle.uvl_lexer.specs.steps.Turns.{read_through}
 use Rattle.uvl_lexer.specs.Pieces.{Piece, piece_at}
-use Rattle.uvl_lexer.specs.Reading.{read_on}
+use Rattle.uvl_lexer.specs.steps.Reading.{read_on}
 use Rattle.uvl_lexer.specs.Forms.{HasForm}
 use Rattle.uvl_lexer.proofs.Cutting.{cut_piece}
 use Rattle.uvl_lexer.proofs.Laying.{OnFault-map}

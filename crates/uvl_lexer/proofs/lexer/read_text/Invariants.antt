@@ -4,9 +4,9 @@ use denote.Text.{Utf8}
 use denote.Shadow.{shadow}
 use Rattle.std.specs.Prelude.{chars}
 use Rattle.uvl_lexer.specs.Cut.{cut}
-use Rattle.uvl_lexer.specs.Turns.{read_through}
+use Rattle.uvl_lexer.specs.steps.Turns.{read_through}
 use Rattle.uvl_lexer.specs.Positions.{IsSound}
-use Rattle.uvl_lexer.specs.Reading.{read_on}
+use Rattle.uvl_lexer.specs.steps.Reading.{read_on}
 use Rattle.uvl_lexer.proofs.lexer.read_text.Given as goal
 
 abbrev pub invariant-loop-piece : goal.invariant-loop-piece

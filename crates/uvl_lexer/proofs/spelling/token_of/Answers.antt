@@ -10,7 +10,7 @@ use Rattle.uvl_lexer.specs.declared.piece.Lexeme.{Lexeme}
 use Rattle.uvl_base.specs.ReservedWords.{word_of}
 use Rattle.uvl_lexer.specs.Layout.{token_of, word_or_name}
 use Rattle.uvl_lexer.specs.Forms.{HasTokenForm}
-use Rattle.uvl_lexer.specs.Spellings.{IsReadable}
+use Rattle.uvl_lexer.specs.steps.Spellings.{IsReadable}
 use Rattle.uvl_lexer.proofs.Names.{identifier-is_name}
 use Rattle.uvl_lexer.proofs.Numbers.{number-is_number}
 use Rattle.uvl_lexer.proofs.spelling.token_of.Goals as goal

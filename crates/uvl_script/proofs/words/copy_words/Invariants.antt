@@ -4,7 +4,7 @@ use denote.Text.{Utf8}
 use Rattle.std.proofs.Common.{◌≡◌, length}
 use Rattle.std.specs.Prelude.{chars}
 use Rattle.uvl_script.specs.Words.{words_of}
-use Rattle.uvl_script.specs.steps.Answers.{onto_all}
+use Rattle.uvl_script.specs.steps.Pieces.{onto_all}
 use Rattle.uvl_script.proofs.words.copy_words.Given as goal
 
 abbrev pub invariant-loop-word : goal.invariant-loop-word

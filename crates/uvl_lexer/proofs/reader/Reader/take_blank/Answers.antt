@@ -19,10 +19,10 @@ returns-clause-read c =
     let new = c.end_line_at.new.self in
     let taken = c.in_ok-end_line_at.ensures in
     let size = length c.args.spelling.now in
-    λ rest. blank_read old.tokens.items new.tokens.items old.begun new.begun old.levels new.levels old.brackets new.brackets
+    λ rest. blank_read old.tokens.items new.tokens.items old.begun new.begun old.indentations new.indentations old.brackets new.brackets
     old.position c.behind-after.result c.args.kind (chars c.args.spelling.now) size
     c.requires.blank
     (size_is c.args.spelling.now c.utf8.spelling)
     (c.behind-after.ensures.position ∙ ap (λ (n : ℕ). behind c.args.kind old.position n size) c.requires.count)
     taken.tokens taken.begun
-    (ap (λ (r : Reader). r.levels) c.end_line_at.ensures.others) (ap (λ (r : Reader). r.brackets) c.end_line_at.ensures.others) rest
+    (ap (λ (r : Reader). r.indentations) c.end_line_at.ensures.others) (ap (λ (r : Reader). r.brackets) c.end_line_at.ensures.others) rest

@@ -3,7 +3,7 @@ use Rattle.std.proofs.Common.{length, sym, ap, ◌∙◌, arith, length-append}
 use Rattle.std.specs.Prelude.{chars}
 use Rattle.uvl_lexer.specs.Cut.{comment_onto}
 use Rattle.uvl_lexer.specs.Layout.{Units, tokens_onto}
-use Rattle.uvl_lexer.specs.Turns.{read_units}
+use Rattle.uvl_lexer.specs.steps.Turns.{read_units}
 use Rattle.uvl_lexer.proofs.Comments.{comment_read, nothing_left}
 use Rattle.uvl_lexer.proofs.Sizes.{no_bytes}
 use Rattle.uvl_lexer.proofs.reader.Reader.take_comment.Goals as goal
@@ -21,7 +21,7 @@ loop-piece-preserved c =
       omega (arith, taken.byte, ap length parts.bytes, length-append front after, so_far.2),
       λ more.
           so_far.3 more
-          ∙ ap (λ (u : Units). tokens_onto r.tokens.items (read_units r.begun r.levels u))
+          ∙ ap (λ (u : Units). tokens_onto r.tokens.items (read_units r.begun r.indentations u))
           (comment_read (chars c.loop-piece.rest.now) c.in-Some.piece (chars front) (chars after) (sym c.in-Some.ensures.piece) parts.front parts.rest r.position r.brackets more)
           ∙ taken.read (comment_onto (chars after) more),
     )

@@ -5,7 +5,7 @@ use denote.Shadow.{shadow}
 use Rattle.std.specs.Prelude.{chars}
 use Rattle.uvl_lexer.specs.Cut.{Cut, comment_onto}
 use Rattle.uvl_lexer.specs.Positions.{IsSound}
-use Rattle.uvl_lexer.specs.Reading.{read_on}
+use Rattle.uvl_lexer.specs.steps.Reading.{read_on}
 use Rattle.uvl_lexer.proofs.reader.Reader.take_comment.Given as goal
 
 abbrev pub invariant-loop-piece : goal.invariant-loop-piece

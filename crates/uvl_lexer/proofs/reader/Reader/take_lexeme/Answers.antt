@@ -19,8 +19,8 @@ returns-clause-read c =
     let new = c.take_token.new.self in
     let taken = c.in_ok-take_token.ensures in
     let size = length c.args.spelling.now in
-    λ rest. token_read old.tokens.items new.tokens.items old.begun new.begun old.levels new.levels old.brackets new.brackets
+    λ rest. token_read old.tokens.items new.tokens.items old.begun new.begun old.indentations new.indentations old.brackets new.brackets
     old.position c.behind-after.result c.args.lexeme (chars c.args.spelling.now) size
     (size_is c.args.spelling.now c.utf8.spelling)
     (c.behind-after.ensures.position ∙ ap (λ (n : ℕ). behind (piece.Lexeme c.args.lexeme) old.position n size) c.requires.count)
-    taken.stands.0 taken.stands.1 taken.tokens taken.levels taken.brackets taken.begun rest
+    taken.stands.0 taken.stands.1 taken.tokens taken.indentations taken.brackets taken.begun rest
