@@ -10,6 +10,3 @@ pub use handle::Handle;
 pub use refusal::{AddRefusal, OutOfMemory, Refusal};
 pub use row::{NodeNo, Row, Var};
 pub use store::{MAX_VARIABLES, Store};
-
-#[cfg(test)]
-mod tests;

@@ -10,6 +10,3 @@ pub use expression::{BinOp, Expr};
 pub use feature::{AttrValue, Attribute, Feature, Group, GroupKind};
 pub use file::{File, Import};
 pub use names::{Names, Ref};
-
-#[cfg(test)]
-mod tests;

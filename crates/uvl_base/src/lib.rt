@@ -21,6 +21,3 @@ pub use name::{Name, NameFault, is_name};
 pub use place::Place;
 pub use text::{OutOfMemory, Text};
 pub use word::{Word, is_reserved, word_of};
-
-#[cfg(test)]
-mod tests;

@@ -5,5 +5,4 @@ pub mod Growing
 pub mod Rows
 pub mod Entries
 pub mod Limits
-pub mod ThinRows
 pub mod Numbered

@@ -11,6 +11,3 @@ mod variables;
 pub use laws::{marks_choose_features, outline_tells_products};
 pub use products::{NODES_PER_FEATURE, compile};
 pub use variables::add_variables;
-
-#[cfg(test)]
-mod tests;

@@ -21,6 +21,3 @@ pub use law::{every_text_is_cut_once, every_text_is_read_once, tokens_are_a_list
 pub use lexer::lex;
 pub use token::{Symbol, Token, TokenKind};
 pub use uvl_base::Word;
-
-#[cfg(test)]
-mod tests;

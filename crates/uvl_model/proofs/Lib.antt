@@ -6,4 +6,3 @@ pub mod Membership
 pub mod NameKeys
 pub mod NoProduct
 pub mod Places
-pub mod ThinModel

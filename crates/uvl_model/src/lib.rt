@@ -15,6 +15,3 @@ pub use laws::{
 pub use model::Model;
 pub use names::NameIndex;
 pub use rows::{FeatureNo, FeatureRow, GroupRow};
-
-#[cfg(test)]
-mod tests;

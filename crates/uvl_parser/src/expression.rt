@@ -32,9 +32,6 @@ use std::alloc::Global;
 use uvl_ast::Expr;
 use uvl_lexer::{Symbol, Token};
 
-#[cfg(test)]
-mod tests;
-
 /// Reads an expression.
 #[tactic(auto, unfolding(uvl_grammar::specs::steps::Expressions::expression, crate::specs::steps::Precedence::of_precedence, uvl_grammar::specs::steps::Reading::closed))]
 pub(crate) fn expression(alloc: Global, tokens: &[Token]) -> Result<(Expr, &[Token]), Stop>

@@ -24,6 +24,3 @@ pub use law::{every_token_list_is_parsed_once, files_are_parsed_exactly_within_t
 pub use parser::parse;
 pub use uvl_faults::nodes_are_counted_by_tokens;
 pub use uvl_grammar::every_token_list_spells_one_file;
-
-#[cfg(test)]
-mod tests;

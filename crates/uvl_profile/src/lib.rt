@@ -13,6 +13,3 @@ mod section;
 pub use candidate::{Candidate, Met};
 pub use scan::first_met;
 pub use section::{Section, SectionPart};
-
-#[cfg(test)]
-mod tests;

@@ -8,4 +8,3 @@ pub mod OneTree
 pub mod PlainLines
 pub mod Steps
 pub mod Stops
-pub mod Within

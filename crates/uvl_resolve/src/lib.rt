@@ -14,6 +14,3 @@ pub use file::resolve;
 pub use laws::{
     files_are_built_or_have_a_cause, files_have_one_model, files_have_one_tree, flat_keeps_products,
 };
-
-#[cfg(test)]
-mod tests;

@@ -11,6 +11,3 @@ pub use fault::{LineFault, WordFault};
 pub use line::{read_line, split_words};
 pub use uvl_base::MOST_LINE_BYTES;
 pub use words::every_text_has_its_words;
-
-#[cfg(test)]
-mod tests;

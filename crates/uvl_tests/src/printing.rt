@@ -24,7 +24,7 @@ fn sign_of(operator: BinOp) -> &'static str {
 }
 
 /// A node and the column in which it stands.
-pub(crate) fn put(into: &mut String, node: &str, place: Place) -> Result<(), AllocError> {
+fn put(into: &mut String, node: &str, place: Place) -> Result<(), AllocError> {
     let column = place.column;
     write!(into, "{node}@{column}")
 }
@@ -54,7 +54,7 @@ fn put_reference(into: &mut String, reference: &Ref) -> Result<(), AllocError> {
 }
 
 /// The tree with parentheses round each operator and its operands.
-pub(crate) fn put_expression(into: &mut String, expr: &Expr) -> Result<(), AllocError> {
+fn put_expression(into: &mut String, expr: &Expr) -> Result<(), AllocError> {
     match expr {
         Expr::Number(value, place) => {
             let millionths = value.millionths();
@@ -193,7 +193,7 @@ fn put_head(into: &mut String, file: &File) -> Result<(), AllocError> {
     Ok(())
 }
 
-/// All of a file but where it ends, with a semicolon behind each part.
+/// All of a file, with a semicolon behind each part, and where it ends.
 pub(crate) fn put_file(into: &mut String, file: &File) -> Result<(), AllocError> {
     put_head(into, file)?;
     if let Some(root) = &file.root {
@@ -205,5 +205,5 @@ pub(crate) fn put_file(into: &mut String, file: &File) -> Result<(), AllocError>
         put_expression(into, rule)?;
         into.push(';')?;
     }
-    Ok(())
+    put_placed(into, "end", file.finish)
 }

@@ -1,6 +1,8 @@
-//! Each call that takes memory once, and what is printed of a fault.
-use crate::{FaultKind, Fixed, ModelFault, Name, NameFault, NumberFault, Place, Text, is_reserved};
+//! Names, texts, numbers and reserved words, and what is printed of a fault.
 use std::test::Fail;
+use uvl_base::{
+    FaultKind, Fixed, ModelFault, Name, NameFault, NumberFault, Place, Text, is_reserved,
+};
 
 #[test]
 fn a_name_is_any_text_without_quotes_and_line_breaks(rt: HostRuntime) -> Result<(), Fail> {
@@ -8,12 +10,11 @@ fn a_name_is_any_text_without_quotes_and_line_breaks(rt: HostRuntime) -> Result<
     for text in ["Car", "Full Grain", "x.Radio", "größe", " "] {
         let name = Name::new(alloc, text)?;
         assert_eq!(rt; name.text(), text);
+        assert_eq!(rt; name.clone()?.text(), text);
     }
     for text in ["", "a\"b", "a\nb", "a\r"] {
-        match Name::new(alloc, text) {
-            Ok(_) => assert!(rt; false, "a name: {text:?}"),
-            Err(fault) => assert_eq!(rt; fault, NameFault::BadName),
-        }
+        let fault = Name::new(alloc, text).err();
+        assert_eq!(rt; fault, Some(NameFault::BadName), "{text:?}");
     }
     Ok(())
 }
@@ -22,32 +23,19 @@ fn a_name_is_any_text_without_quotes_and_line_breaks(rt: HostRuntime) -> Result<
 fn a_fault_prints_its_file_place_and_kind(rt: HostRuntime) -> Result<(), Fail> {
     let alloc = rt.alloc();
     let rows = [
-        ("no.uvl", 1, 1, FaultKind::Absent, "no.uvl:1:1 E01 Absent"),
+        (1, 1, FaultKind::Absent, "m.uvl:1:1 E01 Absent"),
+        (2, 2, FaultKind::ImportCycle, "m.uvl:2:2 E20 ImportCycle"),
         (
-            "b.uvl",
-            2,
-            2,
-            FaultKind::ImportCycle,
-            "b.uvl:2:2 E20 ImportCycle",
-        ),
-        (
-            "m.uvl",
             2051,
             4,
             FaultKind::TooManyFeatures,
             "m.uvl:2051:4 E23 TooManyFeatures",
         ),
-        (
-            "m.uvl",
-            130,
-            130,
-            FaultKind::TooDeep,
-            "m.uvl:130:130 E24 TooDeep",
-        ),
-        ("m.uvl", 1, 1, FaultKind::NotBuilt, "m.uvl:1:1 E99 NotBuilt"),
+        (130, 130, FaultKind::TooDeep, "m.uvl:130:130 E24 TooDeep"),
+        (1, 1, FaultKind::NotBuilt, "m.uvl:1:1 E99 NotBuilt"),
     ];
-    for (file, line, column, kind, printed) in rows {
-        let file = Text::new(alloc, file)?;
+    for (line, column, kind, printed) in rows {
+        let file = Text::new(alloc, "m.uvl")?;
         let place = Place { line, column };
         let fault = ModelFault { file, place, kind };
         let text = format!(in alloc; "{fault}")?;
@@ -58,11 +46,20 @@ fn a_fault_prints_its_file_place_and_kind(rt: HostRuntime) -> Result<(), Fail> {
 
 #[test]
 fn a_word_of_uvl_is_reserved_as_it_is_spelled(rt: HostRuntime) {
-    for word in ["features", "or", "Boolean", "constraint", "constraints"] {
-        assert!(rt; is_reserved(word), "{word}");
-    }
-    for word in ["Features", "boolean", "o", "orr", ""] {
-        assert!(rt; !is_reserved(word), "{word}");
+    let rows = [
+        ("features", true),
+        ("or", true),
+        ("Boolean", true),
+        ("constraint", true),
+        ("constraints", true),
+        ("Features", false),
+        ("boolean", false),
+        ("o", false),
+        ("orr", false),
+        ("", false),
+    ];
+    for (word, reserved) in rows {
+        assert_eq!(rt; is_reserved(word), reserved, "{word}");
     }
 }
 

@@ -1,46 +1,37 @@
-//! What the parser answers for whole texts: trees, and places with kinds of faults. The answers
-//! follow from the grammar by hand.
-use crate::{ParseFault, parse};
+//! What the parser answers for whole texts: trees, and places with kinds of faults. The answers follow
+//! from the grammar by hand.
+use crate::printing::put_file;
+use crate::texts::{FRONT, Parts, chain, joined, tokens_of};
 use std::alloc::Global;
 use std::fmt::Write;
 use std::process::Abort;
 use std::test::Fail;
 use uvl_base::Place;
-use uvl_lexer::lex;
-
-pub(crate) mod printing;
-pub(crate) mod texts;
-
-use printing::put_file;
-use texts::{FRONT, chain, joined};
+use uvl_parser::{ParseFault, parse};
 
 /// The tree of a text and where its file ends, or the place and the kind of its fault.
-fn answer(alloc: Global, text: &str) -> Result<(String, Option<Place>), Fail> {
-    if text.len() > 8_388_608 {
-        return Err(Fail::from("the text is too long"));
-    }
-    let tokens = lex(alloc, text)?;
+fn answer(alloc: Global, text: &str) -> Result<String, Fail> {
+    let tokens = tokens_of(alloc, text)?;
     let mut shown = String::new(alloc);
-    match parse(alloc, tokens.as_slice()) {
+    match parse(alloc, &tokens) {
         Ok(file) => {
             put_file(&mut shown, &file)?;
-            Ok((shown, Some(file.finish)))
         }
         Err(ParseFault::At { place, kind }) => {
             let Place { line, column } = place;
             let kind = kind.name();
             write!(shown, "{line}:{column} {kind}")?;
-            Ok((shown, None))
         }
-        Err(ParseFault::OutOfMemory) => Err(Fail::from("out of memory")),
+        Err(ParseFault::OutOfMemory) => return Err(Fail::from("out of memory")),
     }
+    Ok(shown)
 }
 
 /// Texts that spell files, with their trees and where they end: all constructs of the language.
-const ACCEPTED: [(&str, &str, (u32, u32)); 9] = [
-    ("", "", (1, 1)),
-    ("features\n\tA\n", "A@2:2;", (3, 1)),
-    ("// none\ninclude\nimports\nconstraints", "", (4, 12)),
+const ACCEPTED: [(&str, &str); 11] = [
+    ("", "end@1:1"),
+    ("features\n\tA\n", "A@2:2;end@3:1"),
+    ("// none\ninclude\nimports\nconstraints", "end@4:12"),
     (
         "namespace Shop.Cars\n\
          include\n\
@@ -58,15 +49,13 @@ const ACCEPTED: [(&str, &str, (u32, u32)); 9] = [
          include \"a b\".*;\
          import@7:2 parts.radio@7:2 as r@7:17;\
          import@8:2 engine@8:2;\
-         Car@10:10;",
-        (11, 1),
+         Car@10:10;end@11:1",
     ),
     (
         "features\n\
          \tA {p, q true, r false, s 300, t -2.5, u .5, v 'a b', w '', x {}, y []}\n",
         "A@2:2 p@2:5=yes q@2:8=yes r@2:16=no s@2:25=300000000 t@2:32=-2500000 \
-         u@2:40=500000 v@2:46='a b' w@2:55='' x@2:61={} y@2:67=[];",
-        (3, 1),
+         u@2:40=500000 v@2:46='a b' w@2:55='' x@2:61={} y@2:67=[];end@3:1",
     ),
     (
         "features\n\
@@ -75,8 +64,7 @@ const ACCEPTED: [(&str, &str, (u32, u32)); 9] = [
          \tSizes [1, -2.5, [], [true, {k false}]]}",
         "A@2:2 Price@2:5=300000000 \
          Fat@3:2={ value@3:7=35000000 unit@3:17={ of@3:23='g' all@3:31=yes}} \
-         Sizes@4:2=[ 1000000 -2500000 [] [ yes { k@4:30=no}]];",
-        (4, 41),
+         Sizes@4:2=[ 1000000 -2500000 [] [ yes { k@4:30=no}]];end@4:41",
     ),
     (
         "features\n\
@@ -85,8 +73,7 @@ const ACCEPTED: [(&str, &str, (u32, u32)); 9] = [
          \t\t\tB\n\
          \t\t\tC\n",
         "A@2:2 x@2:24=1000000 rule (A@16 =>@18 B@21) rule !@42A@43 rule (B@46 &@48 C@50) \
-         or@3:3( B@4:4 C@5:4);",
-        (6, 1),
+         or@3:3( B@4:4 C@5:4);end@6:1",
     ),
     (
         "features\n\
@@ -107,8 +94,7 @@ const ACCEPTED: [(&str, &str, (u32, u32)); 9] = [
          \t\t[0..*]\n\
          \t\t\tBoolean J\n",
         "A@2:2 mandatory@3:3( B@4:4 alternative@5:5( C@6:6 D.E.or@7:6)) optional@8:3( F@9:4) \
-         or@10:3( G@11:4) 2..2@12:3( H@13:4) 1..3@14:3( I@15:4) 0..*@16:3( J@17:12);",
-        (18, 1),
+         or@10:3( G@11:4) 2..2@12:3( H@13:4) 1..3@14:3( I@15:4) 0..*@16:3( J@17:12);end@18:1",
     ),
     (
         "constraints\n\
@@ -125,35 +111,30 @@ const ACCEPTED: [(&str, &str, (u32, u32)); 9] = [
          rule (a@2 <@4 1000000@6);\
          rule (a@2 <=@4 1000000@7);\
          rule (a@2 >@4 1000000@6);\
-         rule (a@2 >=@4 1000000@8);",
-        (9, 1),
+         rule (a@2 >=@4 1000000@8);end@9:1",
+    ),
+    (
+        "features\n\tCar\n\t\tmandatory\n\t\t\tBody\n\t\toptional\n\t\t\tRadio\n",
+        "Car@2:2 mandatory@3:3( Body@4:4) optional@5:3( Radio@6:4);end@7:1",
+    ),
+    // operators group to the left, by their precedence
+    (
+        "constraints\n\
+         \tA => B => C\n\
+         \t((A & B) | (!(C => D) & (((A.p + 2) * 1) > -3)))\n\
+         \tsum(a) <= 10.5\n\
+         \t!A == 1 + 2 * 3 & B | C => D <=> E\n\
+         \tA - 1 - -2\n",
+        "rule ((A@2 =>@4 B@7) =>@9 C@12);\
+         rule ((A@4 &@6 B@8) |@11 (!@14(C@16 =>@18 D@21) &@24 (((A.p@29 +@33 2000000@35) *@38 1000000@40) >@43 -3000000@45)));\
+         rule (sum a@2 <=@9 10500000@12);\
+         rule ((((!@2(A@3 ==@5 (1000000@8 +@10 (2000000@12 *@14 3000000@16))) &@18 B@20) |@22 C@24) =>@26 D@29) <=>@31 E@35);\
+         rule ((A@2 -@4 1000000@6) -@8 -2000000@10);end@7:1",
     ),
 ];
 
-fn are_accepted(
-    alloc: Global,
-    rt: &impl Abort,
-    rows: &[(&str, &str, (u32, u32))],
-) -> Result<(), Fail> {
-    for (text, tree, (line, column)) in rows {
-        let (found, finish) = answer(alloc, text)?;
-        assert_eq!(rt; found.as_str(), *tree, "{text:?}");
-        let place = Place {
-            line: *line,
-            column: *column,
-        };
-        assert_eq!(rt; finish, Some(place), "{text:?}");
-    }
-    Ok(())
-}
-
-#[test]
-fn each_construct_is_read_into_its_tree(rt: HostRuntime) -> Result<(), Fail> {
-    are_accepted(rt.alloc(), &rt, &ACCEPTED)
-}
-
 /// Texts that are refused, with their faults.
-const REFUSED: [(&str, &str); 31] = [
+const REFUSED: [(&str, &str); 38] = [
     ("namespace\n", "1:10 Syntax"),
     ("\tA\n", "1:2 Syntax"),
     ("include\n\t+\n", "2:2 Syntax"),
@@ -175,6 +156,13 @@ const REFUSED: [(&str, &str); 31] = [
     ("features\n\tA {constraints B}\n", "2:17 Syntax"),
     ("constraints\n\tA < A < A\n", "2:8 Syntax"),
     ("constraints\n\tA &\n", "2:5 Syntax"),
+    ("constraints\n\tA =>\n", "2:6 Syntax"),
+    ("constraints\n\tA & | B\n", "2:6 Syntax"),
+    ("constraints\n\t-A\n", "2:3 Syntax"),
+    ("constraints\n\tA.\n", "2:4 Syntax"),
+    ("constraints\n\tsum(1)\n", "2:6 Syntax"),
+    ("constraints\n\tA + !B\n", "2:6 Syntax"),
+    ("constraints\n\t((A)), B\n", "2:7 Syntax"),
     ("features\n\tString A\n", "2:2 TypedFeature"),
     (
         "features\n\tA\n\t\tor\n\t\t\tInteger B\n",
@@ -198,7 +186,7 @@ const REFUSED: [(&str, &str); 31] = [
 ];
 
 /// Parts of texts that are too large or too deep, with their faults.
-const LARGE: [(&[(&str, usize)], &str); 3] = [
+const LARGE: [(Parts, &str); 3] = [
     (
         &[FRONT, ("A|", 4096), ("A\n", 1)],
         "4:8194 ExpressionTooLarge",
@@ -211,27 +199,16 @@ const LARGE: [(&[(&str, usize)], &str); 3] = [
     ),
 ];
 
-fn is_refused(alloc: Global, rt: &impl Abort, text: &str, fault: &str) -> Result<(), Fail> {
-    let (found, finish) = answer(alloc, text)?;
-    assert_eq!(rt; found.as_str(), fault, "{text:?}");
-    assert_eq!(rt; finish, None, "{text:?}");
+fn expect(rt: &impl Abort, alloc: Global, text: &str, want: &str) -> Result<(), Fail> {
+    let found = answer(alloc, text)?;
+    assert_eq!(rt; found.as_str(), want, "{text:?}");
     Ok(())
 }
 
-fn are_refused(alloc: Global, rt: &impl Abort, rows: &[(&str, &str)]) -> Result<(), Fail> {
-    for (text, fault) in rows {
-        is_refused(alloc, rt, text, fault)?;
-    }
-    Ok(())
-}
-
-fn are_refused_when_joined(
-    alloc: Global,
-    rt: &impl Abort,
-    rows: &[(&[(&str, usize)], &str)],
-) -> Result<(), Fail> {
-    for (parts, fault) in rows {
-        is_refused(alloc, rt, joined(alloc, parts)?.as_str(), fault)?;
+#[test]
+fn each_construct_is_read_into_its_tree(rt: HostRuntime) -> Result<(), Fail> {
+    for (text, tree) in ACCEPTED {
+        expect(&rt, rt.alloc(), text, tree)?;
     }
     Ok(())
 }
@@ -239,62 +216,16 @@ fn are_refused_when_joined(
 #[test]
 fn each_refusal_has_its_place_and_its_kind(rt: HostRuntime) -> Result<(), Fail> {
     let alloc = rt.alloc();
-    are_refused(alloc, &rt, &REFUSED)?;
-    are_refused_when_joined(alloc, &rt, &LARGE)?;
-    let deep = chain(alloc, 65, "")?;
-    is_refused(alloc, &rt, deep.as_str(), "130:130 TooDeep")
-}
-
-const THIN_MODEL: &str = "features\n\tCar\n\t\tmandatory\n\t\t\tBody\n\t\toptional\n\t\t\tRadio\n";
-
-/// The answer for the front of the thin model that has so many bytes. The lexer refuses none: a line
-/// counts from its first token on, and in front of that stands the whole indentation of the line.
-fn answer_for_front(bytes: usize) -> &'static str {
-    match bytes {
-        0 => "",
-        1..=7 => "1:1 Syntax",
-        8 => "1:9 Syntax",
-        9 => "2:1 Syntax",
-        10 => "2:2 Syntax",
-        11 => "C@2:2;",
-        12 => "Ca@2:2;",
-        13..=16 => "Car@2:2;",
-        17..=24 => "3:3 Syntax",
-        25 => "3:12 Syntax",
-        26 => "4:1 Syntax",
-        27 => "4:2 Syntax",
-        28 => "4:3 Syntax",
-        29 => "4:4 Syntax",
-        30 => "Car@2:2 mandatory@3:3( B@4:4);",
-        31 => "Car@2:2 mandatory@3:3( Bo@4:4);",
-        32 => "Car@2:2 mandatory@3:3( Bod@4:4);",
-        33..=36 => "Car@2:2 mandatory@3:3( Body@4:4);",
-        37..=43 => "5:3 Syntax",
-        44 => "5:11 Syntax",
-        45 => "6:1 Syntax",
-        46 => "6:2 Syntax",
-        47 => "6:3 Syntax",
-        48 => "6:4 Syntax",
-        49 => "Car@2:2 mandatory@3:3( Body@4:4) optional@5:3( R@6:4);",
-        50 => "Car@2:2 mandatory@3:3( Body@4:4) optional@5:3( Ra@6:4);",
-        51 => "Car@2:2 mandatory@3:3( Body@4:4) optional@5:3( Rad@6:4);",
-        52 => "Car@2:2 mandatory@3:3( Body@4:4) optional@5:3( Radi@6:4);",
-        53 | 54 => "Car@2:2 mandatory@3:3( Body@4:4) optional@5:3( Radio@6:4);",
-        _ => "no front",
+    for (text, fault) in REFUSED {
+        expect(&rt, alloc, text, fault)?;
     }
-}
-
-#[test]
-fn each_front_of_the_thin_model_has_its_answer(rt: HostRuntime) -> Result<(), Fail> {
-    let alloc = rt.alloc();
-    let mut front = String::new(alloc);
-    let (found, _) = answer(alloc, front.as_str())?;
-    assert_eq!(rt; found.as_str(), answer_for_front(0));
-    for character in THIN_MODEL.chars() {
-        front.push(character)?;
-        let (found, _) = answer(alloc, front.as_str())?;
-        assert_eq!(rt; found.as_str(), answer_for_front(front.len()), "{front:?}");
+    for (parts, fault) in LARGE {
+        expect(&rt, alloc, joined(alloc, parts)?.as_str(), fault)?;
     }
-    assert_eq!(rt; front.len(), 54);
-    Ok(())
+    expect(
+        &rt,
+        alloc,
+        chain(alloc, 65, "")?.as_str(),
+        "130:130 TooDeep",
+    )
 }

@@ -1,8 +1,8 @@
 //! The lexer over the rows of the language's description: each token by one sign, and each refusal.
-use crate::{LexFault, Token, TokenKind, lex};
 use std::alloc::{AllocError, Global};
 use std::test::Fail;
-use uvl_base::FaultKind;
+use uvl_base::{FaultKind, MOST_FILE_BYTES};
+use uvl_lexer::{LexFault, Token, TokenKind, lex};
 
 fn sign_of(kind: &TokenKind) -> char {
     match kind {
@@ -50,7 +50,7 @@ fn a_text_is_cut_into_the_longest_tokens_with_layout_marks(rt: HostRuntime) -> R
         ("/* a */ b\n// c\n\n\t/*\n*/\n", ">n;<."),
     ];
     for (text, signs) in rows {
-        assert!(rt; text.len() <= 8_388_608);
+        assert!(rt; text.len() <= MOST_FILE_BYTES);
         let tokens = lex(alloc, text)?;
         let found = signs_of(alloc, tokens.as_slice())?;
         assert_eq!(rt; found.as_str(), signs, "{text:?}");
@@ -102,7 +102,7 @@ fn a_text_stops_at_the_first_place_that_cannot_be_read(rt: HostRuntime) {
         ("a /* b\n*/ \t\"", 2, 5, FaultKind::Unclosed),
     ];
     for (text, line, column, kind) in rows {
-        assert!(rt; text.len() <= 8_388_608);
+        assert!(rt; text.len() <= MOST_FILE_BYTES);
         match lex(alloc, text) {
             Err(LexFault::At { place, kind: found }) => {
                 assert_eq!(rt; found, kind, "{text:?}");

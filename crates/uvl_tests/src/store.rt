@@ -1,5 +1,5 @@
 //! Each call on its happy path, and the limit on variables.
-use crate::{AddRefusal, NodeNo, Store};
+use dd_store::{AddRefusal, NodeNo, Store};
 use std::test::Fail;
 
 #[test]

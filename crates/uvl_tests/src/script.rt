@@ -1,9 +1,10 @@
 //! What lines of a script are read as.
-use crate::{Command, LineFault, MOST_LINE_BYTES, WordFault, read_line, split_words};
+
 use std::alloc::Global;
 use std::process::Abort;
 use std::test::Fail;
-use uvl_base::Name;
+use uvl_base::{MOST_LINE_BYTES, Name};
+use uvl_script::{Command, LineFault, WordFault, read_line, split_words};
 
 #[test]
 fn each_line_is_a_command_or_silent_or_has_its_first_fault(rt: HostRuntime) -> Result<(), Fail> {

@@ -1,0 +1,49 @@
+//! The definitions on small trees, names by their numbers, and the answers of a thin model.
+ghost use Rattle.std.specs.Prelude.{◌≡◌, [], ◌∷◌, true, false, codes};
+ghost use Rattle.uvl_model.specs.Family.{is_void};
+ghost use Rattle.uvl_model.specs.Products.{ProductsOfTree};
+ghost use Rattle.uvl_tests.specs.Examples.{thin_tree, two_or_three, unfittable, void_tree, products_of};
+
+use crate::texts::{PRODUCTS_OF_THIN, THIN, model_of};
+use std::test::Fail;
+use uvl_model::{FeatureNo, NameIndex};
+
+/// The definitions on the examples. What it ensures is all of it.
+fn products_of_examples()
+    ensures mandatory_and_optional { products_of thin_tree
+        ≡ (codes "Car" ∷ codes "Body" ∷ codes "Radio" ∷ []) ∷ (codes "Car" ∷ codes "Body" ∷ []) ∷ [] }
+    ensures from_two_on { products_of two_or_three
+        ≡ (codes "R" ∷ codes "A" ∷ codes "B" ∷ codes "C" ∷ [])
+        ∷ (codes "R" ∷ codes "A" ∷ codes "B" ∷ [])
+        ∷ (codes "R" ∷ codes "A" ∷ codes "C" ∷ [])
+        ∷ (codes "R" ∷ codes "B" ∷ codes "C" ∷ []) ∷ [] }
+    ensures never_met { products_of unfittable ≡ (codes "R" ∷ []) ∷ [] }
+    ensures not_void { is_void (ProductsOfTree unfittable) ≡ false }
+    ensures void { is_void (ProductsOfTree void_tree) ≡ true }
+{}
+
+#[test]
+fn a_thin_model_finds_its_features_and_knows_its_products(rt: HostRuntime) -> Result<(), Fail> {
+    products_of_examples();
+    let model = model_of(rt.alloc(), THIN)??;
+    assert_eq!(rt; model.find("Car"), Some(FeatureNo(0)));
+    assert_eq!(rt; model.find("Radio"), Some(FeatureNo(2)));
+    assert_eq!(rt; model.find("Wheel"), None);
+    assert_eq!(rt; model.groups().len(), 2);
+    assert!(rt; model.features().len() == 3);
+    for (chosen, product) in PRODUCTS_OF_THIN {
+        assert_eq!(rt; model.is_product(&chosen), product, "{chosen:?}");
+    }
+    Ok(())
+}
+
+#[test]
+fn a_name_is_added_once(rt: HostRuntime) -> Result<(), Fail> {
+    let mut names = NameIndex::new(rt.alloc());
+    for (name, added) in [("Full Grain", true), ("größe", true), ("größe", false)] {
+        assert_eq!(rt; names.add(name)?, added, "{name}");
+    }
+    assert_eq!(rt; names.find("größe"), Some(FeatureNo(1)));
+    assert_eq!(rt; names.find("Größe"), None);
+    Ok(())
+}
