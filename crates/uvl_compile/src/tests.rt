@@ -72,7 +72,7 @@ fn three_variables(alloc: Global) -> Result<Store, Fail>
     ensures budget { IfOk result (λ store. store.budget ≡ 192) }
 {
     let mut store = Store::new(alloc, 192)?;
-    add_variables(&mut store, 3)?;
+    add_variables(alloc, &mut store, 3)?;
     Ok(store)
 }
 
