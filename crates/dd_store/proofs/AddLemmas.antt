@@ -11,7 +11,9 @@ use Rattle.dd_store.specs.Order.{level_in, level_of_row, IsIn}
 use Rattle.dd_store.specs.Follow.{end_of, value_in, IsThere}
 use Rattle.dd_store.specs.Table.{Table, row_of, rows_in, handles_on, value_of, IsLive, HasEnds, AreReduced, IsSound}
 use Rattle.dd_store.specs.Kept.{Index, IsKept, same_row}
-use Rattle.dd_store.specs.Changes.{AddsRow, GainsHandle, KeepsValues}
+use Rattle.dd_store.specs.Changes.{AddsRow, Grows}
+use Rattle.dd_store.specs.Handles.{GainsHandle}
+use Rattle.dd_store.proofs.ChangeLemmas.{keeps-reached}
 use Rattle.dd_store.proofs.HandleLemmas.{each-gain}
 use Rattle.dd_store.proofs.ReadLemmas.{has-ends}
 use Rattle.dd_store.proofs.FollowLemmas.{follow-node, follow-same}
@@ -181,8 +183,8 @@ sound-with_node t i r kept can room = record {
   has_numbers = kept.sound.has_numbers;
   few_variables = kept.sound.few_variables;
   within_budget = let more = rows_in-push t.slots r in let most = kept.sound.within_budget in let is = kept.nodes_is in omega arith;
-  least_budget = kept.sound.least_budget;
-  largest_budget = kept.sound.largest_budget;
+  enough = kept.sound.enough;
+  not_too_much = kept.sound.not_too_much;
 }
   where
     adds : Adds (row_of t) (row_of (with_node t r)) (i.nodes + 2) r
@@ -261,14 +263,25 @@ adds-row t i r kept =
       added = adds.added;
       others = adds.others;
       count = rows_in-push t.slots r;
-      order = refl;
-      budget = refl;
     }
 
--- the live handles keep their values
-pub keeps-values : (t : Table) (i : Index) (r : Row) → IsKept t i → KeepsValues t (with_node t r)
-keeps-values t i r kept n a live_n _ =
-    value-add t.order (row_of t) (row_of (with_node t r)) (i.nodes + 2) r kept.sound.reduced.rows (adds-slot t i r kept) a n (kept.sound.reduced.live n live_n)
+-- what is there keeps its row and its value
+pub grows-with_node : (t : Table) (i : Index) (r : Row) → IsKept t i → CanTake t.order (row_of t) r → i.nodes ≢ t.budget → Grows t (with_node t r) 1
+grows-with_node t i r kept can room = record {
+  keeps = record {
+    values = λ n a before after. value-add t.order (row_of t) _ (i.nodes + 2) r kept.sound.reduced.rows adds a n (kept.sound.reduced.live n before);
+    kept_alive = λ n before after. keeps-reached t (row_of (with_node t r)) kept.sound (there-same _ _ _ r adds) n before;
+    order = refl;
+    budget = refl;
+    sound = sound-with_node t i r kept can room;
+  };
+  count = let more = rows_in-push t.slots r in omega arith;
+  rows = λ _ n s is. there-same _ _ _ r adds n (λ large. ap is_some is) ∙ is;
+  none = λ no n. absurd (omega arith);
+}
+  where
+    adds : Adds (row_of t) (row_of (with_node t r)) (i.nodes + 2) r
+    adds = adds-slot t i r kept
 
 -- the new node has the value that was asked for
 pub value_of-with_node : (t : Table) (i : Index) (r : Row) → IsKept t i → CanTake t.order (row_of t) r

@@ -9,7 +9,8 @@ use Rattle.std.specs.declared.alloc.AllocError.{AllocError}
 use Rattle.dd_store.specs.Follow.{IsThere}
 use Rattle.dd_store.specs.Table.{Table, row_of, handles_on, IsLive, IsSound, value_of}
 use Rattle.dd_store.specs.Kept.{Index, IsKept}
-use Rattle.dd_store.specs.Changes.{one_on, GainsHandle, LosesHandle}
+use Rattle.dd_store.specs.Changes.{Grows}
+use Rattle.dd_store.specs.Handles.{one_on, GainsHandle, LosesHandle}
 use Rattle.dd_store.proofs.FollowLemmas.{follow-none}
 
 -- the table with another count of handles on one number
@@ -95,8 +96,8 @@ release-kept t i n x kept is_live read = record {
     has_numbers = kept.sound.has_numbers;
     few_variables = kept.sound.few_variables;
     within_budget = kept.sound.within_budget;
-    least_budget = kept.sound.least_budget;
-    largest_budget = kept.sound.largest_budget;
+    enough = kept.sound.enough;
+    not_too_much = kept.sound.not_too_much;
   };
   finds = kept.finds;
   found = kept.found;
@@ -113,6 +114,21 @@ release-kept t i n x kept is_live read = record {
       | inl same ↦ subst (IsThere (row_of t)) (sym same) (kept.sound.reduced.live n is_live)
       | inr other ↦ kept.sound.reduced.live m (let before = get_or-set_other t.counts n m (x - 1) 0 other in omega arith)
     ]
+
+-- another count changes the handles alone
+pub grows-with_count : (t : Table) (n count : ℕ) → IsSound (with_count t n count) → Grows t (with_count t n count) 0
+grows-with_count t n count sound = record {
+  keeps = record {
+    values = λ m a before after. refl;
+    kept_alive = λ m before after k d within. refl;
+    order = refl;
+    budget = refl;
+    sound = sound;
+  };
+  count = omega arith;
+  rows = λ room m r is. is;
+  none = λ no m. refl;
+}
 
 -- the value of a constant
 pub value_of-constant : (t : Table) (b : Bool) (a : ℕ → Bool) → IsSound t → value_of t (if b then 1 else 0) a ≡ b

@@ -1,5 +1,8 @@
 pub mod FollowLemmas
 pub mod Canonical
+pub mod TopLemmas
+pub mod ChangeLemmas
+pub mod CountLemmas
 pub mod HandleLemmas
 pub mod ReadLemmas
 pub mod OrderLemmas

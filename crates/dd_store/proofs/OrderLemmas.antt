@@ -7,7 +7,7 @@ use Rattle.dd_store.specs.declared.row.Row.{Row}
 use Rattle.dd_store.specs.declared.row.Var.{Var}
 use Rattle.dd_store.specs.Order.{level_in, level_of_row, IsIn, IsDistinct}
 use Rattle.dd_store.specs.Follow.{end_of, step, follow}
-use Rattle.dd_store.specs.Table.{Table, row_of, value_of, level_of, IsVariable, IsAbove, AreReduced, IsSound}
+use Rattle.dd_store.specs.Table.{Table, row_of, value_of, level_of, AreReduced, IsSound}
 use Rattle.dd_store.specs.Kept.{Index, IsKept}
 use Rattle.dd_store.proofs.ReadLemmas.{level_in-≤}
 
@@ -129,8 +129,8 @@ sound-with_variable t v sound next room = record {
   has_numbers = λ w small. has_numbers' w small (cases_lt w (length t.order));
   few_variables = let few = sound.few_variables in simp length-append (omega arith);
   within_budget = sound.within_budget;
-  least_budget = sound.least_budget;
-  largest_budget = sound.largest_budget;
+  enough = sound.enough;
+  not_too_much = sound.not_too_much;
 }
   where
     absent : IsAbsent t.order v.0
@@ -186,13 +186,6 @@ kept-with_variable t i v kept next room = record {
         let last : get_or (i.levels ++ v.0 ∷ []) w 0 ≡ length t.order =
         ap (λ k. get_or (i.levels ++ v.0 ∷ []) k 0) is ∙ get_or-append_seam i.levels v.0 [] 0 ∙ next in
         last ∙ sym (ap (level_in (t.order ++ v ∷ [])) same ∙ level_in-last t.order v (absent-next t v kept.sound next))
-
--- a variable of before stands above the nodes above which it stood
-pub above-with_variable : (t : Table) (v : Var) → IsSound t → (w n : ℕ) → IsVariable t w → IsAbove t w n → IsAbove (with_variable t v) w n
-above-with_variable t v sound w n inside above =
-    let level = level_in-push t.order v w inside in
-    let more = level_of_row-push t.order v (row_of t n) (sound.reduced.rows.tested n) in
-    omega arith
 
 -- the new variable stands below all the others
 pub level_of-with_variable : (t : Table) (v : Var) → IsSound t → v.0 ≡ length t.order → level_of (with_variable t v) v.0 ≡ length t.order

@@ -1,11 +1,29 @@
--- The law of canonicity (Bryant 1986), for every order of the variables.
-use Rattle.std.specs.Prelude.{◌≡◌, ℕ, Bool, List, Option}
+-- Laws of reduced rows (Bryant 1986), for every order of the variables.
+use Rattle.std.specs.Prelude.{◌≡◌, ◌↔◌, ◌<◌, ◌≤◌, ℕ, Bool, List, length, Option}
 use Rattle.dd_store.specs.declared.row.Row.{Row}
 use Rattle.dd_store.specs.declared.row.Var.{Var}
-use Rattle.dd_store.specs.Follow.{value_in, IsThere}
+use Rattle.dd_store.specs.Follow.{value_in, with_value, IsThere}
+use Rattle.dd_store.specs.Order.{level_in, level_of_row}
 use Rattle.dd_store.specs.Table.{AreReduced}
 
--- in reduced rows two constants or nodes with one value for every assignment are the same
+-- two numbers have one value for every assignment
+abbrev pub HaveSameValuesIn : List Var → (ℕ → Option Row) → ℕ → ℕ → Type 0
+HaveSameValuesIn order rows m n = (a : ℕ → Bool) → value_in order rows a m ≡ value_in order rows a n
+
+-- Canonicity: in reduced rows two constants or nodes with one value for every assignment are the same.
 abbrev pub ValuesTellNodesApart : Type 0
-ValuesTellNodesApart = (order : List Var) (rows : ℕ → Option Row) → AreReduced order rows → (m n : ℕ) → IsThere rows m → IsThere rows n
-    → ((a : ℕ → Bool) → value_in order rows a m ≡ value_in order rows a n) → m ≡ n
+ValuesTellNodesApart =
+    (order : List Var) (rows : ℕ → Option Row) → AreReduced order rows →
+    (m n : ℕ) → IsThere rows m → IsThere rows n → HaveSameValuesIn order rows m n → m ≡ n
+
+-- the value of a number doesn't depend on any variable above the level
+abbrev pub DependsOnNoneAbove : List Var → (ℕ → Option Row) → ℕ → ℕ → Type 0
+DependsOnNoneAbove order rows l n = (v : ℕ) → level_in order v < l →
+    (a : ℕ → Bool) (b : Bool) → value_in order rows (with_value a v b) n ≡ value_in order rows a n
+
+-- A constant or a node stands on a level or below it exactly where its value depends on no variable above that level.
+abbrev pub ValuesTellLevels : Type 0
+ValuesTellLevels =
+    (order : List Var) (rows : ℕ → Option Row) → AreReduced order rows →
+    (n l : ℕ) → IsThere rows n → l ≤ length order →
+    (l ≤ level_of_row order (rows n)) ↔ DependsOnNoneAbove order rows l n

@@ -1,6 +1,9 @@
+pub mod Limits
 pub mod Order
 pub mod Follow
+pub mod Reached
 pub mod Table
+pub mod Handles
 pub mod Changes
 pub mod Kept
 pub mod Law

@@ -3,7 +3,8 @@ use Rattle.std.specs.Prelude.{◌≡◌, ℕ, suc, ◌<◌, List, [], ◌∷◌,
 use Rattle.dd_store.specs.declared.row.Row.{Row}
 use Rattle.dd_store.specs.declared.row.Var.{Var}
 
--- the level of a variable: how many variables of the order stand above it, which is all of them for a variable that isn't there
+-- the level of a variable: how many variables of the order stand above it, which is all of them for a variable that
+-- isn't there
 abbrev pub level_in : List Var → ℕ → ℕ
 level_in [] v = 0
 level_in (w ∷ ws) v = if w.0 == v then 0 else suc (level_in ws v)

@@ -1,11 +1,14 @@
 -- A table of diagrams as contracts see it, and what is always true of it.
-use Rattle.std.specs.Prelude.{◌≡◌, ◌≢◌, ℕ, suc, ◌<◌, ◌≤◌, Bool, List, [], ◌∷◌, length, sum, slice_index, slice_index_or, if◌then◌else◌, Option, Some, None}
+use Rattle.std.specs.Prelude.{◌≡◌, ◌≢◌, ℕ, suc, ◌<◌, ◌≤◌, Bool, if◌then◌else◌, Option, Some, None}
+use Rattle.std.specs.Prelude.{List, [], ◌∷◌, length, sum, slice_index, slice_index_or}
 use Rattle.dd_store.specs.declared.row.Row.{Row}
 use Rattle.dd_store.specs.declared.row.Var.{Var}
+use Rattle.dd_store.specs.Limits.{most_variables, least_budget, most_budget}
 use Rattle.dd_store.specs.Order.{level_in, level_of_row, IsIn, IsDistinct}
 use Rattle.dd_store.specs.Follow.{end_of, value_in, IsThere}
 
--- the rows by node number, the order of the variables, how many live handles stand on each number, and how many nodes there may be
+-- the rows by node number, the order of the variables, how many live handles stand on each number, and how many nodes
+-- there may be
 pub record Table : Type 0 where
   pub slots : List (Option Row)
   pub order : List Var
@@ -88,7 +91,8 @@ pub record AreReduced (order : List Var) (rows : ℕ → Option Row) : Type 0 wh
   pub tested : (n : ℕ) (r : Row) → rows n ≡ Some r → IsIn order r.var.0
   -- each end is a constant or a node, and stands below its node
   pub ends_there : (n : ℕ) (r : Row) (b : Bool) → rows n ≡ Some r → IsThere rows (end_of r b)
-  pub ends_below : (n : ℕ) (r : Row) (b : Bool) → rows n ≡ Some r → level_in order r.var.0 < level_of_row order (rows (end_of r b))
+  pub ends_below : (n : ℕ) (r : Row) (b : Bool) → rows n ≡ Some r →
+      level_in order r.var.0 < level_of_row order (rows (end_of r b))
   -- the two ends of a node differ
   pub ends_differ : (n : ℕ) (r : Row) → rows n ≡ Some r → r.low.0 ≢ r.high.0
   -- no two nodes have one variable and the same ends
@@ -105,8 +109,8 @@ pub record IsSound (t : Table) : Type 0 where
   -- the variables are numbered from 0 on
   pub numbered : (v : ℕ) → IsVariable t v → v < length t.order
   pub has_numbers : (v : ℕ) → v < length t.order → IsVariable t v
-  pub few_variables : length t.order ≤ 4096
+  pub few_variables : length t.order ≤ most_variables
   -- the budget is kept
   pub within_budget : node_count t ≤ t.budget
-  pub least_budget : 16 ≤ t.budget
-  pub largest_budget : t.budget ≤ 16777216
+  pub enough : least_budget ≤ t.budget
+  pub not_too_much : t.budget ≤ most_budget

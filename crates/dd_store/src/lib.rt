@@ -2,11 +2,13 @@
 #![tactic(auto)]
 
 mod handle;
+mod laws;
 mod refusal;
 mod row;
 mod store;
 
 pub use handle::Handle;
+pub use laws::values_tell_levels;
 pub use refusal::{AddRefusal, OutOfMemory, Refusal};
 pub use row::{NodeNo, Row, Var};
-pub use store::{MAX_VARIABLES, Store};
+pub use store::{LEAST_BUDGET, MAX_VARIABLES, MOST_BUDGET, Store};

@@ -15,10 +15,15 @@ use std::marker::Model;
 use std::mem::size_of;
 pub use variables::MAX_VARIABLES;
 
-/// A table of reduced ordered binary decision diagrams (Bryant 1986), with the order of its variables, the live handles and
-/// a budget of nodes. Contracts see it as a `Table` of `specs/Table.antt`.
-// A method that reads no field before it calls another one begins with `let _whole = &self.slots;`: what always holds of the
-// fields is known to a proof only where one of them is read.
+/// The least budget that a table may have.
+pub const LEAST_BUDGET: u32 = 16;
+/// The largest one.
+pub const MOST_BUDGET: u32 = 16_777_216;
+
+/// A table of reduced ordered binary decision diagrams (Bryant 1986), with the order of its variables, the live handles
+/// and a budget of nodes. Contracts see it as a `Table` of `specs/Table.antt`.
+// A method that reads no field before it calls another one begins with `let _whole = &self.slots;`: what always holds
+// of the fields is known to a proof only where one of them is read.
 #[derive(Drop)]
 pub struct Store {
     /// The row of each node, by the node's number; the two constants have none.
@@ -49,20 +54,32 @@ impl Model for Store {
 
     ghost Value = { Table };
 
-    ghost view = { λ s. record { slots = s.slots.items; order = s.order.items; counts = s.counts.items; budget = s.budget } };
+    ghost view = { λ s. record {
+      slots = s.slots.items;
+      order = s.order.items;
+      counts = s.counts.items;
+      budget = s.budget;
+    } };
 
     ghost invariant = { λ s. IsKept
         (record { slots = s.slots.items; order = s.order.items; counts = s.counts.items; budget = s.budget })
-        (record { find = get same_row s.numbers; live = s.live; nodes = s.nodes; levels = s.levels.items }) };
+        (record {
+          find = get same_row s.numbers;
+          live = s.live;
+          nodes = s.nodes;
+          levels = s.levels.items;
+        }) };
 }
 
 impl Store {
+    ghost use Rattle.dd_store.specs.Limits.{least_budget, most_budget};
     ghost use Rattle.dd_store.specs.Table.{IsSound, row_of, node_count, handle_count, handles_on};
 
-    /// An empty table: no variable, no node and no live handle. `budget` is the number of nodes that it may hold, for good.
+    /// An empty table: no variable, no node and no live handle. `budget` is the number of nodes that it may hold, for
+    /// good.
     pub fn new(alloc: Global, budget: u32) -> Result<Store, OutOfMemory>
-        requires least { 16 ≤ budget }
-        requires largest { budget ≤ 16777216 }
+        requires least { least_budget ≤ budget }
+        requires largest { budget ≤ most_budget }
         ensures variables { IfOk result (λ store. store.order ≡ []) }
         ensures nodes { IfOk result (λ store. node_count store ≡ 0) }
         ensures handles { IfOk result (λ store. (n : ℕ) → handles_on store n ≡ 0) }

@@ -1,7 +1,7 @@
 pub mod GroupTests
 pub mod Allowed
 pub mod ChosenNames
-pub mod Growing
+pub mod Standing
 pub mod Rows
 pub mod Entries
 pub mod Limits

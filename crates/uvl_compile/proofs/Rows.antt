@@ -1,43 +1,26 @@
 -- Rows of handles over several calls, and the choice at one place.
-use Rattle.std.proofs.Common.{◌≡◌, ℕ, ◌+◌, ◌-◌, ◌<◌, ◌≤◌, nat_le, min, Bool, true, false, not, ◌&&◌, List, [], ◌∷◌, ◌++◌, length, drop, slice_index, refl, sym, ap, ◌∙◌, subst, add-one, arith, inl, inr, drop-cons, if◌then◌else◌, Result, Ok, Err, IfOk}
+use Rattle.std.proofs.Common.{◌≡◌, ℕ, ◌+◌, ◌-◌, ◌<◌, nat_le, min, Bool, true, false, not, ◌&&◌, List, [], ◌∷◌, ◌++◌, length, drop, slice_index, refl, sym, ap, ◌∙◌, subst, add-one, arith, inl, inr, drop-cons, if◌then◌else◌, Result, Ok, Err, IfOk}
 use Rattle.std.proofs.lemmas.Bool.{cases_lt, le-leb}
 use Rattle.std.proofs.lemmas.Bool.Decides.{nat_tests}
 use Rattle.std.proofs.lemmas.List.{get_or_append_left}
 use Rattle.std.specs.declared.alloc.AllocError.{AllocError}
-use Rattle.dd_store.specs.declared.row.Var.{Var}
-use Rattle.dd_store.specs.Order.{level_in}
-use Rattle.dd_store.specs.Table.{Table, level_of, top_of, value_of, IsLive, IsAbove}
-use Rattle.dd_store.specs.Changes.{KeepsNodes, KeepsValues, KeepsTops}
+use Rattle.dd_store.specs.Table.{Table, value_of, IsLive}
+use Rattle.dd_store.specs.Changes.{Grows}
+use Rattle.dd_store.proofs.CountLemmas.{length-push}
 use Rattle.uvl_model.specs.Tree.{Tree, feature}
 use Rattle.uvl_compile.specs.declared.outline.Entry.{Entry}
 use Rattle.uvl_compile.specs.Choice.{is_allowed}
 use Rattle.uvl_compile.specs.Entering.{entry_at}
-use Rattle.uvl_compile.specs.Held.{Grows}
 use Rattle.uvl_compile.specs.Outline.{outline_of}
-use Rattle.uvl_compile.specs.Row.{IsAscending, IsPartOfRow, IsRow, IsNo, places_of}
+use Rattle.uvl_compile.specs.Row.{IsPartOfRow, IsRow, IsNo, places_of}
 use Rattle.uvl_compile.proofs.Allowed.{StartsBy, allowed_same}
-
--- a variable stays above a node where both keep their levels
-above_moves : (s t : Table) (v n : ℕ) → t.order ≡ s.order → top_of t n ≡ top_of s n → IsAbove s v n → IsAbove t v n
-above_moves s t v n order top is =
-    let level = ap (λ (o : List Var). level_in o v) order in
-    omega arith
 
 -- the handles of a row keep their meaning while they are live
 pub part_grows : (s t : Table) {k : ℕ} (n : ℕ) (entries : List Entry) (row : List ℕ) → IsPartOfRow s n entries row → Grows s t k
     → ((d : ℕ) → d < length row → IsLive t (slice_index row d)) → IsPartOfRow t n entries row
 part_grows s t n entries row part grows live = record {
   live = live;
-  above = λ d v within before. above_moves s t v (slice_index row d) grows.order (grows.tops _ (part.live d within)) (part.above d v within before);
-  value = λ d a within. grows.values _ a (part.live d within) ∙ part.value d a within;
-}
-
-pub part_kept : (s t : Table) (n : ℕ) (entries : List Entry) (row : List ℕ) → IsPartOfRow s n entries row → KeepsNodes s t → KeepsValues s t → KeepsTops s t
-    → ((d : ℕ) → d < length row → IsLive t (slice_index row d)) → IsPartOfRow t n entries row
-part_kept s t n entries row part nodes values tops live = record {
-  live = live;
-  above = λ d v within before. above_moves s t v (slice_index row d) nodes.order (tops _ (part.live d within)) (part.above d v within before);
-  value = λ d a within. values _ a (part.live d within) (live d within) ∙ part.value d a within;
+  value = λ d a within. grows.keeps.values _ a (part.live d within) (live d within) ∙ part.value d a within;
 }
 
 -- the place of the last element
@@ -45,16 +28,11 @@ at_end : (row : List ℕ) (h d : ℕ) → d ≡ length row → slice_index (row 
 at_end [] h d e = rw e refl
 at_end (x ∷ xs) h d e = rw e (at_end xs h (length xs) refl)
 
-pub length-push : (row : List ℕ) (h : ℕ) → length (row ++ h ∷ []) ≡ length row + 1
-length-push [] h = omega arith
-length-push (x ∷ xs) h = let rest = length-push xs h in omega arith
-
 -- one place more
 pub part_push : (t : Table) (n : ℕ) (entries : List Entry) (row : List ℕ) (h : ℕ) → IsPartOfRow t n entries row
-    → IsLive t h → ((v : ℕ) → v < n → IsAbove t v h) → ((a : ℕ → Bool) → value_of t h a ≡ is_allowed entries n a (length row)) → IsPartOfRow t n entries (row ++ h ∷ [])
-part_push t n entries row h part live above value = record {
+    → IsLive t h → ((a : ℕ → Bool) → value_of t h a ≡ is_allowed entries n a (length row)) → IsPartOfRow t n entries (row ++ h ∷ [])
+part_push t n entries row h part live value = record {
   live = λ d within. by (λ d m. IsLive t m) part.live live d within;
-  above = λ d v within before. by (λ d m. IsAbove t v m) (λ d inside. part.above d v inside before) (above v before) d within;
   value = λ d a within. by (λ d m. value_of t m a ≡ is_allowed entries n a d) (λ d inside. part.value d a inside) (value a) d within;
 }
   where
@@ -66,11 +44,16 @@ part_push t n entries row h part live above value = record {
           subst (P d) (sym (at_end row h d here)) (subst (λ (m : ℕ). P m h) (sym here) last)
     ]
 
+-- a row has a place
+pub row_some : (t : Table) (n : ℕ) (entries : List Entry) (row : List ℕ) → IsRow t n entries row → 0 < length row
+row_some t n [] row is = let places = is.places in omega arith
+row_some t n (entry ∷ rest) row is = let places = is.places in omega arith
+
 -- the last place of a row serves all greater numbers
 pub next_value : (t : Table) (n : ℕ) (entries : List Entry) (row : List ℕ) → IsRow t n entries row → (d : ℕ) (a : ℕ → Bool)
     → value_of t (slice_index row (min d (length row - 1))) a ≡ is_allowed entries n a d
 next_value t n entries row is d a =
-    let some = places_some entries in
+    let some = row_some t n entries row is in
     let places = is.places in
     elim (cases_lt d (length row)) [
       | inl inside ↦
@@ -82,10 +65,6 @@ next_value t n entries row is d a =
           ∙ sym (allowed_same entries n a d (length row - 1) (starts entries (length row) is.places) (omega arith))
     ]
   where
-    places_some : (es : List Entry) → 0 < places_of es
-    places_some [] = omega arith
-    places_some (e ∷ es) = omega arith
-
     starts : (es : List Entry) (l : ℕ) → l ≡ places_of es → StartsBy es (l - 1)
     starts [] l e = tt
     starts (x ∷ xs) l e = omega arith
@@ -108,14 +87,6 @@ allowed_chosen entry rest n a d same =
     let yes : nat_le entry.depth entry.depth ≡ true = le-leb entry.depth entry.depth (omega arith) in
     rw (same, yes) refl
 
--- a node of a feature stands below the features before it
-pub above_new : (s t : Table) (n size h : ℕ) → t.order ≡ s.order → IsAscending s.order size → n < size → level_of t n ≤ top_of t h → (v : ℕ) → v < n → IsAbove t v h
-above_new s t n size h order up inside top v before =
-    let here = ap (λ (o : List Var). level_in o n) order in
-    let there = ap (λ (o : List Var). level_in o v) order in
-    let lower = up.ascending v n before inside in
-    omega arith
-
 -- a choice by the same condition
 if_same : (b x y x' y' : Bool) → x ≡ x' → y ≡ y' → (if b then x else y) ≡ (if b then x' else y')
 if_same true x y x' y' e f = e
@@ -126,15 +97,21 @@ entries_at : (entries : List Entry) (n : ℕ) → n < length entries → drop n 
 entries_at entries n inside = rw (add-one) (drop-cons entries n _ inside)
 
 module _ (t : Table) (entries : List Entry) (n : ℕ) (below : List ℕ) (inside : n < length entries) (row : IsRow t (n + 1) (drop (n + 1) entries) below) where
-  -- the handle at a place of the row below
-  next_is : (h d : ℕ) (a : ℕ → Bool) → h ≡ slice_index below (min d (length below - 1)) → value_of t h a ≡ is_allowed (drop (n + 1) entries) (n + 1) a d
+  -- the handle at a place of the row below is live
+  pub next_live : (h d : ℕ) → h ≡ slice_index below (min d (length below - 1)) → IsLive t h
+  next_live h d place =
+      let some = row_some t (n + 1) (drop (n + 1) entries) below row in
+      subst (IsLive t) (sym place) (row.part.live (min d (length below - 1)) (omega arith))
+
+  -- and has its value
+  pub next_is : (h d : ℕ) (a : ℕ → Bool) → h ≡ slice_index below (min d (length below - 1)) → value_of t h a ≡ is_allowed (drop (n + 1) entries) (n + 1) a d
   next_is h d a place = ap (λ (m : ℕ). value_of t m a) place ∙ next_value t (n + 1) (drop (n + 1) entries) below row d a
 
   whole : (d : ℕ) (a : ℕ → Bool) → is_allowed (entry_at entries n ∷ drop (n + 1) entries) n a d ≡ is_allowed (drop n entries) n a d
   whole d a = ap (λ (es : List Entry). is_allowed es n a d) (sym (entries_at entries n inside))
 
   -- the ends of a node where the parent isn't chosen
-  pub absent_ends : (none low d : ℕ) → IsNo t n none → d < (entry_at entries n).depth → low ≡ slice_index below (min d (length below - 1)) → (a : ℕ → Bool)
+  pub absent_ends : (none low d : ℕ) → IsNo t none → d < (entry_at entries n).depth → low ≡ slice_index below (min d (length below - 1)) → (a : ℕ → Bool)
       → (if a n then value_of t none a else value_of t low a) ≡ is_allowed (drop n entries) n a d
   absent_ends none low d is_no before place a =
       if_same (a n) _ _ _ _ (is_no.value a) (next_is low d a place)
@@ -142,7 +119,7 @@ module _ (t : Table) (entries : List Entry) (n : ℕ) (below : List ℕ) (inside
       ∙ whole d a
 
   -- where it is, and the feature is mandatory
-  pub mandatory_ends : (none high d : ℕ) → IsNo t n none → d ≡ (entry_at entries n).depth → (entry_at entries n).mandatory ≡ true
+  pub mandatory_ends : (none high d : ℕ) → IsNo t none → d ≡ (entry_at entries n).depth → (entry_at entries n).mandatory ≡ true
       → high ≡ slice_index below (min (d + 1) (length below - 1)) → (a : ℕ → Bool)
       → (if a n then value_of t high a else value_of t none a) ≡ is_allowed (drop n entries) n a d
   mandatory_ends none high d is_no same mandatory place a =

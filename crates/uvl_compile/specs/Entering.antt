@@ -25,4 +25,6 @@ with_entry entries entry (f ∷ fs) = with_entry (slice_set entries f.0 entry) e
 
 -- the entries in which the members of the group stand one below their parent, mandatory if any is wanted
 abbrev pub with_group : List Entry → GroupRow → List Entry
-with_group entries row = with_entry entries (record { depth = (entry_at entries row.parent.0).depth + 1; mandatory = nat_lt 0 row.lo }) row.members
+with_group entries row =
+    with_entry entries (record { depth = (entry_at entries row.parent.0).depth + 1; mandatory = nat_lt 0 row.lo })
+    row.members

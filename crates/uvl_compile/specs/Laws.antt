@@ -14,9 +14,11 @@ use Rattle.uvl_compile.specs.Outline.{IsOutlineOf}
 -- where all groups are mandatory or optional, the chosen features are a product exactly where the outline allows them
 abbrev pub OutlineTellsProducts : Type 0
 OutlineTellsProducts =
-    (rows : Rows) (entries : List Entry) (a : ℕ → Bool) → IsSound rows → GroupsAreMandatoryOrOptional rows → IsOutlineOf rows entries →
+    (rows : Rows) (entries : List Entry) (a : ℕ → Bool) →
+    IsSound rows → GroupsAreMandatoryOrOptional rows → IsOutlineOf rows entries →
     (Products rows).contains (chosen_features a rows) ≡ is_allowed entries 0 a 0
 
 -- a row of marks chooses the features that it marks
 abbrev pub MarksChooseFeatures : Type 0
-MarksChooseFeatures = (rows : Rows) (marks : List Bool) → chosen_features (assignment_of marks) rows ≡ chosen_names rows marks
+MarksChooseFeatures =
+    (rows : Rows) (marks : List Bool) → chosen_features (assignment_of marks) rows ≡ chosen_names rows marks

@@ -3,6 +3,5 @@ pub mod Choice
 pub mod Chosen
 pub mod Laws
 pub mod Entering
-pub mod Held
 pub mod Nodes
 pub mod Row

@@ -8,17 +8,20 @@ use Rattle.uvl_compile.specs.declared.outline.Entry.{Entry}
 abbrev mutual
   -- the entries of a tree below so many features
   pub entries_of : ℕ → Bool → Tree → List Entry
-  entries_of depth mandatory (feature name below) = record { depth = depth; mandatory = mandatory } ∷ entries_of_groups (depth + 1) below
+  entries_of depth mandatory (feature name below) =
+      record { depth = depth; mandatory = mandatory } ∷ entries_of_groups (depth + 1) below
 
   -- those of groups; the members of a group that wants any are mandatory, as it wants all then
   pub entries_of_groups : ℕ → Groups → List Entry
   entries_of_groups depth no_groups = []
-  entries_of_groups depth (group lo hi members others) = entries_of_members depth (nat_lt 0 lo) members ++ entries_of_groups depth others
+  entries_of_groups depth (group lo hi members others) =
+      entries_of_members depth (nat_lt 0 lo) members ++ entries_of_groups depth others
 
   -- those of the trees of members, one after another
   pub entries_of_members : ℕ → Bool → Members → List Entry
   entries_of_members depth mandatory no_members = []
-  entries_of_members depth mandatory (member tree others) = entries_of depth mandatory tree ++ entries_of_members depth mandatory others
+  entries_of_members depth mandatory (member tree others) =
+      entries_of depth mandatory tree ++ entries_of_members depth mandatory others
 
 -- the entries of a whole tree, whose root is mandatory
 abbrev pub outline_of : Tree → List Entry

@@ -2,7 +2,7 @@
 use Rattle.std.specs.Prelude.{◌≡◌, ℕ, ◌+◌, ◌<◌, Bool, false, List, [], ◌∷◌, length, slice_index}
 use Rattle.dd_store.specs.declared.row.Var.{Var}
 use Rattle.dd_store.specs.Order.{level_in, IsIn}
-use Rattle.dd_store.specs.Table.{Table, IsLive, IsAbove, value_of}
+use Rattle.dd_store.specs.Table.{Table, IsLive, value_of}
 use Rattle.uvl_compile.specs.declared.outline.Entry.{Entry}
 use Rattle.uvl_compile.specs.Choice.{is_allowed}
 
@@ -16,20 +16,19 @@ abbrev pub places_of : List Entry → ℕ
 places_of [] = 1
 places_of (entry ∷ rest) = entry.depth + 1
 
--- the handle at place d of the row tells what the features from n on allow, where the first d features of the path are chosen,
--- and tests none of the features before n
+-- the handle at place d of the row tells what the features from n on allow, where the first d features of the path are
+-- chosen
 pub record IsPartOfRow (t : Table) (n : ℕ) (entries : List Entry) (row : List ℕ) : Type 0 where
   pub live : (d : ℕ) → d < length row → IsLive t (slice_index row d)
-  pub above : (d v : ℕ) → d < length row → v < n → IsAbove t v (slice_index row d)
-  pub value : (d : ℕ) (a : ℕ → Bool) → d < length row → value_of t (slice_index row d) a ≡ is_allowed entries n a d
+  pub value : (d : ℕ) (a : ℕ → Bool) → d < length row →
+      value_of t (slice_index row d) a ≡ is_allowed entries n a d
 
 -- the row has a place for each number that matters
 pub record IsRow (t : Table) (n : ℕ) (entries : List Entry) (row : List ℕ) : Type 0 where
   pub part : IsPartOfRow t n entries row
   pub places : length row ≡ places_of entries
 
--- the handle is that of the constant no, below the variable
-pub record IsNo (t : Table) (v n : ℕ) : Type 0 where
+-- the handle is that of the constant no
+pub record IsNo (t : Table) (n : ℕ) : Type 0 where
   pub live : IsLive t n
-  pub above : IsAbove t v n
   pub value : (a : ℕ → Bool) → value_of t n a ≡ false

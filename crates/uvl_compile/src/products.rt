@@ -1,17 +1,17 @@
 //! The diagram of a model's products, made from the last feature to the first.
 ghost use Rattle.std.specs.Prelude.{◌≡◌, ℕ, ◌+◌, ◌-◌, ◌*◌, ◌<◌, ◌≤◌, Bool, [], length, IfOk, OnErr};
-ghost use Rattle.dd_store.specs.Changes.{KeepsHandles, KeepsRows, KeepsTops, KeepsValues, GainsHandle};
+ghost use Rattle.dd_store.specs.Changes.{Grows};
+ghost use Rattle.dd_store.specs.Handles.{KeepsHandles, GainsHandle, HoldsMore};
 ghost use Rattle.dd_store.specs.Table.{IsSound, node_count, value_of};
 ghost use Rattle.uvl_base.specs.Limits.{most_features, most_depth};
 ghost use Rattle.uvl_model.specs.Products.{Products};
 ghost use Rattle.uvl_compile.specs.Chosen.{chosen_features};
 ghost use Rattle.uvl_compile.specs.Entering.{AreShallow};
-ghost use Rattle.uvl_compile.specs.Held.{HoldsMore, Grows};
 ghost use Rattle.uvl_compile.specs.Nodes.{nodes_per_feature, most_nodes_of};
 ghost use Rattle.uvl_compile.specs.Row.{IsAscending, IsRow};
 ghost use Rattle.uvl_model.specs.OptionalGroups.{GroupsAreMandatoryOrOptional};
 
-use crate::handles::{push_within_capacity, release_all};
+use crate::handles::push_within_capacity;
 use crate::laws::outline_tells_products;
 use crate::outline::{Entry, outline};
 use crate::row::feature_row;
@@ -37,18 +37,10 @@ pub fn compile(alloc: Global, store: &mut Store, model: &Model) -> Result<Handle
     ensures products { IfOk result (λ h. (a : ℕ → Bool) →
         value_of store.new h a ≡ (Products model.now).contains (chosen_features a model.now)) }
 
-    // The live handles, and their values.
+    // The live handles, and what stays: at most so many nodes are new, and as there is room for them, none leaves.
     ensures gained { IfOk result (GainsHandle store.old store.new) }
     ensures refused { OnErr result (KeepsHandles store.old store.new) }
-    ensures values { KeepsValues store.old store.new }
-    ensures tops { KeepsTops store.old store.new }
-
-    // The nodes.
-    ensures stay { KeepsRows store.old store.new }
-    ensures few_new { node_count store.new ≤ node_count store.old + most_nodes_of model.now }
-    ensures order { store.new.order ≡ store.old.order }
-    ensures budget { store.new.budget ≡ store.old.budget }
-    ensures sound { IsSound store.new }
+    ensures grows { Grows store.old store.new (most_nodes_of model.now) }
 {
     // The law on outlines, and that the store and the model are sound: they are facts for the proof.
     outline_tells_products();
@@ -76,14 +68,13 @@ fn first_row(
     ensures held { IfOk result (λ row. HoldsMore store.old store.new row.items) }
     ensures refused { OnErr result (KeepsHandles store.old store.new) }
     ensures grows { Grows store.old store.new (nodes_per_feature * length entries.now) }
-    ensures sound { IsSound store.new }
 {
     let mut row = last_row(alloc, store)?;
     let mut feature = entries.len();
     while feature > 0 {
         feature -= 1;
         let above = feature_row(alloc, store, entries, feature, &row);
-        release_all(store, row);
+        store.release_all(row);
         row = above?;
     }
     Ok(row)
@@ -95,7 +86,6 @@ fn last_row(alloc: Global, store: &mut Store) -> Result<Vec<Handle>, OutOfMemory
     ensures held { IfOk result (λ row. HoldsMore store.old store.new row.items) }
     ensures refused { OnErr result (KeepsHandles store.old store.new) }
     ensures grows { Grows store.old store.new 0 }
-    ensures sound { IsSound store.new }
 {
     // The store is sound also where nothing is done.
     store.nodes();

@@ -1,17 +1,18 @@
 //! The diagrams of one feature: one for each number of chosen features on the path above it.
-ghost use Rattle.std.specs.Prelude.{◌≡◌, ℕ, ◌+◌, ◌-◌, ◌<◌, ◌≤◌, ◌^◌, Bool, min, [], length, drop, slice_index, IfOk, OnOk, OnErr, if◌then◌else◌};
-ghost use Rattle.dd_store.specs.Table.{IsSound, IsLive, IsVariable, IsAbove, node_count, level_of, top_of, value_of};
-ghost use Rattle.dd_store.specs.Changes.{KeepsHandles, GainsHandle};
+ghost use Rattle.std.specs.Prelude.{◌≡◌, ℕ, ◌+◌, ◌-◌, ◌<◌, ◌≤◌, Bool, min, [], length, drop, slice_index};
+ghost use Rattle.std.specs.Prelude.{IfOk, OnOk, OnErr, if◌then◌else◌};
+ghost use Rattle.dd_store.specs.Changes.{Grows};
+ghost use Rattle.dd_store.specs.Handles.{KeepsHandles, GainsHandle, HoldsMore};
+ghost use Rattle.dd_store.specs.Table.{IsSound, IsLive, IsVariable, IsAbove, node_count, value_of};
 ghost use Rattle.uvl_base.specs.Limits.{most_features, most_depth};
 ghost use Rattle.uvl_compile.specs.Choice.{is_allowed};
 ghost use Rattle.uvl_compile.specs.Entering.{entry_at};
-ghost use Rattle.uvl_compile.specs.Held.{HoldsMore, Grows};
 ghost use Rattle.uvl_compile.specs.Nodes.{nodes_per_feature};
 ghost use Rattle.uvl_compile.specs.Row.{IsAscending, IsRow, IsPartOfRow, IsNo};
 
-use crate::handles::{push_within_capacity, release_all};
+use crate::handles::push_within_capacity;
 use crate::outline::Entry;
-use dd_store::{Handle, OutOfMemory, Refusal, Store, Var};
+use dd_store::{Handle, OutOfMemory, Refusal, Store, Var, values_tell_levels};
 use std::alloc::{AllocError, Global};
 
 /// The row of a feature, made from the row of the next one. `entries` is the whole outline.
@@ -32,16 +33,15 @@ pub(crate) fn feature_row(
     ensures held { IfOk result (λ row. HoldsMore store.old store.new row.items) }
     ensures refused { OnErr result (KeepsHandles store.old store.new) }
     ensures grows { Grows store.old store.new nodes_per_feature }
-    ensures sound { IsSound store.new }
 {
     let no = store.constant(false)?;
     let mut row = Vec::new(alloc);
-    let filled = fill(store, entries, feature, below, &no, &mut row);
+    let filled = fill(alloc, store, entries, feature, below, &no, &mut row);
     store.release(no);
     match filled {
         Ok(()) => Ok(row),
         Err(error) => {
-            release_all(store, row);
+            store.release_all(row);
             Err(error)
         }
     }
@@ -50,6 +50,7 @@ pub(crate) fn feature_row(
 /// Fills the row of a feature, from the place for no chosen feature on. What it holds at a refusal
 /// is the caller's to give back.
 fn fill(
+    alloc: Global,
     store: &mut Store,
     entries: &[Entry],
     feature: usize,
@@ -62,20 +63,19 @@ fn fill(
     requires shallow { (entry_at entries.now feature).depth < most_depth }
     requires variables { IsAscending store.old.order (length entries.now) }
     requires below { IsRow store.old (feature + 1) (drop (feature + 1) entries.now) below.now }
-    requires no { IsNo store.old feature no.now }
+    requires no { IsNo store.old no.now }
     requires room { node_count store.old + nodes_per_feature ≤ store.old.budget }
     requires empty { row.old.items ≡ [] }
     ensures part { OnOk result (IsPartOfRow store.new feature (drop feature entries.now) row.new.items) }
     ensures places { OnOk result (length row.new.items ≡ (entry_at entries.now feature).depth + 1) }
     ensures held { HoldsMore store.old store.new row.new.items }
     ensures grows { Grows store.old store.new nodes_per_feature }
-    ensures sound { IsSound store.new }
 {
     // The store is sound also where nothing is done.
     store.nodes();
     for chosen in 0..entries[feature].depth + 1 {
         row.reserve(1)?;
-        let handle = choice(store, entries, feature, chosen, below, no)?;
+        let handle = choice(alloc, store, entries, feature, chosen, below, no)?;
         push_within_capacity(row, handle);
     }
     Ok(())
@@ -84,6 +84,7 @@ fn fill(
 /// What the features from `feature` on allow where the first `chosen` features of its path are
 /// chosen. Its parent is chosen if all of them are.
 fn choice(
+    alloc: Global,
     store: &mut Store,
     entries: &[Entry],
     feature: usize,
@@ -95,26 +96,33 @@ fn choice(
     requires few { length entries.now ≤ most_features }
     requires chosen { chosen ≤ (entry_at entries.now feature).depth }
     requires shallow { (entry_at entries.now feature).depth < most_depth }
-    requires variable { IsVariable store.old feature }
+    requires variables { IsAscending store.old.order (length entries.now) }
     requires below { IsRow store.old (feature + 1) (drop (feature + 1) entries.now) below.now }
-    requires no { IsNo store.old feature no.now }
+    requires no { IsNo store.old no.now }
     requires room { node_count store.old < store.old.budget }
     ensures value { IfOk result (λ h. (a : ℕ → Bool) →
         value_of store.new h a ≡ is_allowed (drop feature entries.now) feature a chosen) }
-    ensures top { IfOk result (λ h. level_of store.new feature ≤ top_of store.new h) }
     ensures gained { IfOk result (GainsHandle store.old store.new) }
     ensures refused { OnErr result (KeepsHandles store.old store.new) }
     ensures grows { Grows store.old store.new 1 }
-    ensures sound { IsSound store.new }
 {
+    // What each handle allows tells where it stands, and the store is sound: they are facts for the proof.
+    values_tell_levels();
+    store.nodes();
     let entry = entries[feature];
     let var = Var(feature as u32);
     if chosen < entry.depth {
-        node(store, var, next(below, chosen), no)
+        node(alloc, store, var, next(below, chosen), no)
     } else if entry.mandatory {
-        node(store, var, no, next(below, chosen + 1))
+        node(alloc, store, var, no, next(below, chosen + 1))
     } else {
-        node(store, var, next(below, chosen), next(below, chosen + 1))
+        node(
+            alloc,
+            store,
+            var,
+            next(below, chosen),
+            next(below, chosen + 1),
+        )
     }
 }
 
@@ -127,7 +135,13 @@ fn next(row: &[Handle], chosen: usize) -> &Handle
 }
 
 /// A handle on a node, for which the table has room.
-fn node(store: &mut Store, var: Var, low: &Handle, high: &Handle) -> Result<Handle, OutOfMemory>
+fn node(
+    alloc: Global,
+    store: &mut Store,
+    var: Var,
+    low: &Handle,
+    high: &Handle,
+) -> Result<Handle, OutOfMemory>
     requires room { node_count store.old < store.old.budget }
     requires variable { IsVariable store.old var.0 }
     requires low_live { IsLive store.old low.now }
@@ -136,13 +150,11 @@ fn node(store: &mut Store, var: Var, low: &Handle, high: &Handle) -> Result<Hand
     requires above_high { IsAbove store.old var.0 high.now }
     ensures value { IfOk result (λ h. (a : ℕ → Bool) →
         value_of store.new h a ≡ (if a var.0 then value_of store.old high.now a else value_of store.old low.now a)) }
-    ensures top { IfOk result (λ h. level_of store.new var.0 ≤ top_of store.new h) }
     ensures gained { IfOk result (GainsHandle store.old store.new) }
     ensures refused { OnErr result (KeepsHandles store.old store.new) }
     ensures grows { Grows store.old store.new 1 }
-    ensures sound { IsSound store.new }
 {
-    match store.node(var, low, high) {
+    match store.node(alloc, var, low, high) {
         Ok(handle) => Ok(handle),
         Err(Refusal::OverBudget { .. }) => unreachable!(),
         Err(Refusal::OutOfMemory) => Err(AllocError),

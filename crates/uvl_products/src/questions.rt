@@ -33,7 +33,7 @@ impl Products {
         requires { GroupsAreMandatoryOrOptional model.now }
     {
         let mut store = Store::new(alloc, 1_048_576).ok()?;
-        add_variables(&mut store, model.features().len()).ok()?;
+        add_variables(alloc, &mut store, model.features().len()).ok()?;
         let handle = compile(alloc, &mut store, model).ok()?;
         Some(Products { store, handle })
     }

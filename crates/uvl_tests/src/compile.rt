@@ -11,7 +11,7 @@ fn the_diagram_of_a_thin_model_has_its_products(rt: HostRuntime) -> Result<(), F
     assert!(rt; model.features().len() == 3);
     // just the room that three features may want
     let mut store = Store::new(alloc, 192)?;
-    add_variables(&mut store, 3)?;
+    add_variables(alloc, &mut store, 3)?;
     let products = compile(alloc, &mut store, &model)?;
     for (chosen, product) in PRODUCTS_OF_THIN {
         assert_eq!(rt; store.value(&products, &chosen), product, "{chosen:?}");

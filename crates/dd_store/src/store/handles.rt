@@ -1,5 +1,5 @@
 //! Handles: making them on constants and nodes, copying them, and giving them back.
-ghost use Rattle.std.specs.Prelude.{◌≡◌, ℕ, ◌≤◌, ◌<◌, Bool, if◌then◌else◌, length, IfOk, OnOk, OnErr};
+ghost use Rattle.std.specs.Prelude.{◌≡◌, ℕ, ◌≤◌, ◌<◌, Bool, if◌then◌else◌, IfOk, OnErr};
 ghost use Rattle.dd_store.specs.Follow.{IsThere};
 
 use crate::handle::Handle;
@@ -8,21 +8,19 @@ use crate::row::NodeNo;
 use crate::store::Store;
 use std::alloc::AllocError;
 
+// These calls take no memory. The one refusal is a count of live handles that is full, which is answered as want of it.
 impl Store {
-    ghost use Rattle.dd_store.specs.Table.{IsSound, IsLive, row_of, top_of, value_of};
-    ghost use Rattle.dd_store.specs.Changes.{KeepsHandles, GainsHandle, LosesHandle, KeepsNodes, KeepsValues, KeepsTops};
+    ghost use Rattle.dd_store.specs.Table.{IsSound, IsLive, row_of, handles_on, value_of};
+    ghost use Rattle.dd_store.specs.Changes.{Grows};
+    ghost use Rattle.dd_store.specs.Handles.{KeepsHandles, GainsHandle, LosesHandle, HoldsLess, count_on};
 
     /// A handle on a constant, which is no node: its value is `value` for every assignment.
     pub fn constant(&mut self, value: bool) -> Result<Handle, OutOfMemory>
         ensures value { IfOk result (λ h. (a : ℕ → Bool) → value_of self.new h a ≡ value) }
         ensures place { IfOk result (λ h. h ≡ (if value then 1 else 0)) }
-        ensures top { IfOk result (λ h. top_of self.new h ≡ length self.new.order) }
         ensures gained { IfOk result (GainsHandle self.old self.new) }
         ensures refused { OnErr result (KeepsHandles self.old self.new) }
-        ensures nodes { KeepsNodes self.old self.new }
-        ensures values { KeepsValues self.old self.new }
-        ensures tops { KeepsTops self.old self.new }
-        ensures sound { IsSound self.new }
+        ensures grows { Grows self.old self.new 0 }
     {
         self.hold(NodeNo(u32::from(value)))
     }
@@ -34,10 +32,7 @@ impl Store {
         ensures value { IfOk result (λ h. (a : ℕ → Bool) → value_of self.new h a ≡ value_of self.old handle.now a) }
         ensures gained { IfOk result (GainsHandle self.old self.new) }
         ensures refused { OnErr result (KeepsHandles self.old self.new) }
-        ensures nodes { KeepsNodes self.old self.new }
-        ensures values { KeepsValues self.old self.new }
-        ensures tops { KeepsTops self.old self.new }
-        ensures sound { IsSound self.new }
+        ensures grows { Grows self.old self.new 0 }
     {
         let _whole = &self.slots;
         self.hold(handle.node)
@@ -47,26 +42,32 @@ impl Store {
     pub fn release(&mut self, handle: Handle)
         requires { IsLive self.old handle }
         ensures lost { LosesHandle self.old self.new handle }
-        ensures nodes { KeepsNodes self.old self.new }
-        ensures values { KeepsValues self.old self.new }
-        ensures tops { KeepsTops self.old self.new }
-        ensures sound { IsSound self.new }
+        ensures grows { Grows self.old self.new 0 }
     {
         self.counts[handle.node.0 as usize] -= 1;
         self.live -= 1;
     }
 
+    /// Gives all handles back.
+    pub fn release_all(&mut self, mut handles: Vec<Handle>)
+        requires { (n : ℕ) → count_on handles.items n ≤ handles_on self.old n }
+        ensures less { HoldsLess self.old self.new handles.items }
+        ensures grows { Grows self.old self.new 0 }
+    {
+        let _whole = &self.slots;
+        while let Some(handle) = handles.pop() {
+            self.release(handle);
+        }
+    }
+
     /// A handle on this constant or node.
-    pub(crate) fn hold(&mut self, node: NodeNo) -> Result<Handle, OutOfMemory>
+    pub fn hold(&mut self, node: NodeNo) -> Result<Handle, OutOfMemory>
         requires { IsThere (row_of self.old) node.0 }
         ensures place { IfOk result (λ h. h ≡ node.0) }
         ensures value { IfOk result (λ h. (a : ℕ → Bool) → value_of self.new h a ≡ value_of self.old node.0 a) }
         ensures gained { IfOk result (GainsHandle self.old self.new) }
         ensures refused { OnErr result (KeepsHandles self.old self.new) }
-        ensures nodes { KeepsNodes self.old self.new }
-        ensures values { KeepsValues self.old self.new }
-        ensures tops { KeepsTops self.old self.new }
-        ensures sound { IsSound self.new }
+        ensures grows { Grows self.old self.new 0 }
     {
         if self.live == u32::MAX {
             return Err(AllocError);

@@ -1,22 +1,32 @@
 //! Nodes: the one that has a row is found, or made where the budget leaves room.
-ghost use Rattle.std.specs.Prelude.{◌≡◌, ◌≢◌, ℕ, ◌+◌, ◌<◌, ◌≤◌, Bool, if◌then◌else◌, Some, IfOk, OnOk, OnErr, IfErr, IfSome, IfNone};
+ghost use Rattle.std.specs.Prelude.{◌≡◌, ◌≢◌, ℕ, ◌<◌, Bool, if◌then◌else◌};
+ghost use Rattle.std.specs.Prelude.{Some, IfOk, OnErr, IfErr, IfSome, IfNone};
 
 use crate::handle::Handle;
 use crate::refusal::Refusal;
 use crate::row::{NodeNo, Row, Var};
 use crate::store::Store;
 use crate::store::room::push_within_capacity;
+use std::alloc::Global;
 
 impl Store {
     ghost use Rattle.dd_store.specs.Follow.{IsThere, end_of};
-    ghost use Rattle.dd_store.specs.Table.{IsSound, IsLive, IsVariable, IsAbove, HasEnds, row_of, row_with, node_count, handle_count, level_of, top_of, value_of};
-    ghost use Rattle.dd_store.specs.Changes.{KeepsHandles, GainsHandle, KeepsNodes, KeepsRows, KeepsValues, KeepsTops, AddsRow, IsFullFor, IsCauseFor};
+    ghost use Rattle.dd_store.specs.Table.{IsSound, IsLive, IsVariable, IsAbove, HasEnds, row_of, row_with};
+    ghost use Rattle.dd_store.specs.Table.{node_count, handle_count, value_of};
+    ghost use Rattle.dd_store.specs.Changes.{Grows, AddsRow, IsFullFor, IsCauseFor};
+    ghost use Rattle.dd_store.specs.Handles.{KeepsHandles, GainsHandle};
 
-    /// A handle whose value is that of `high` where `var` is true, and else that of `low`. It stands on the end that both
-    /// have in common, on the node that is there already, or on a new node.
+    /// A handle whose value is that of `high` where `var` is true, and else that of `low`. It stands on the end that
+    /// both have in common, on the node that is there already, or on a new node.
     ///
     /// Where a new node is wanted and the table holds as many as its budget, the answer is `OverBudget`.
-    pub fn node(&mut self, var: Var, low: &Handle, high: &Handle) -> Result<Handle, Refusal>
+    pub fn node(
+        &mut self,
+        alloc: Global,
+        var: Var,
+        low: &Handle,
+        high: &Handle,
+    ) -> Result<Handle, Refusal>
         requires variable { IsVariable self.old var.0 }
         requires low_live { IsLive self.old low.now }
         requires high_live { IsLive self.old high.now }
@@ -27,23 +37,16 @@ impl Store {
         ensures value { IfOk result (λ h. (a : ℕ → Bool) →
             value_of self.new h a ≡ (if a var.0 then value_of self.old high.now a else value_of self.old low.now a)) }
         ensures common_end { IfOk result (λ h. low.now ≡ high.now → h ≡ low.now) }
-        ensures row { IfOk result (λ h. low.now ≢ high.now → row_of self.new h ≡ Some (row_with var.0 low.now high.now)) }
-        ensures top { IfOk result (λ h. level_of self.new var.0 ≤ top_of self.new h) }
+        ensures row { IfOk result (λ h. low.now ≢ high.now →
+            row_of self.new h ≡ Some (row_with var.0 low.now high.now)) }
 
-        // The live handles, and their values.
+        // The live handles, and what stays. With room, at most the asked node is new, and none at a refusal.
         ensures gained { IfOk result (GainsHandle self.old self.new) }
-        ensures refused_handles { OnErr result (KeepsHandles self.old self.new) }
-        ensures values { KeepsValues self.old self.new }
-        ensures tops { KeepsTops self.old self.new }
-
-        // The nodes: those before, and at most the one that was asked for.
-        ensures stay { KeepsRows self.old self.new }
-        ensures others { IfOk result (λ h. (n : ℕ) → n ≢ h → row_of self.new n ≡ row_of self.old n) }
-        ensures grows { node_count self.new ≤ node_count self.old + 1 }
-        ensures refused_nodes { OnErr result (KeepsNodes self.old self.new) }
-        ensures order { self.new.order ≡ self.old.order }
-        ensures budget { self.new.budget ≡ self.old.budget }
-        ensures sound { IsSound self.new }
+        ensures refused { OnErr result (KeepsHandles self.old self.new) }
+        ensures grows { Grows self.old self.new 1 }
+        ensures others { node_count self.old < self.old.budget →
+            IfOk result (λ h. (n : ℕ) → n ≢ h → row_of self.new n ≡ row_of self.old n) }
+        ensures no_more { node_count self.old < self.old.budget → OnErr result (Grows self.old self.new 0) }
 
         // Over the budget exactly where the table is full and doesn't have the node.
         ensures cause { IfErr result (IsCauseFor self.old (row_with var.0 low.now high.now)) }
@@ -61,7 +64,7 @@ impl Store {
         }
         match self.find(row) {
             Some(node) => Ok(self.hold(node)?),
-            None => self.add(row),
+            None => self.add(alloc, row),
         }
     }
 
@@ -75,24 +78,22 @@ impl Store {
     }
 
     /// A handle on a new node with this row, which no node has.
-    fn add(&mut self, row: Row) -> Result<Handle, Refusal>
+    fn add(&mut self, alloc: Global, row: Row) -> Result<Handle, Refusal>
         requires variable { IsVariable self.old row.var.0 }
         requires ends_there { (b : Bool) → IsThere (row_of self.old) (end_of row b) }
         requires above { (b : Bool) → IsAbove self.old row.var.0 (end_of row b) }
         requires differ { row.low.0 ≢ row.high.0 }
         requires absent { (n : ℕ) → row_of self.old n ≢ Some row }
         ensures added { IfOk result (λ h. AddsRow self.old self.new h row) }
-        ensures value { IfOk result (λ h. (a : ℕ → Bool) →
-            value_of self.new h a ≡ (if a row.var.0 then value_of self.old row.high.0 a else value_of self.old row.low.0 a)) }
+        ensures value { IfOk result (λ h. (a : ℕ → Bool) → value_of self.new h a ≡
+            (if a row.var.0 then value_of self.old row.high.0 a else value_of self.old row.low.0 a)) }
         ensures gained { IfOk result (GainsHandle self.old self.new) }
-        ensures refused_handles { OnErr result (KeepsHandles self.old self.new) }
-        ensures values { KeepsValues self.old self.new }
-        ensures tops { KeepsTops self.old self.new }
-        ensures refused_nodes { OnErr result (KeepsNodes self.old self.new) }
+        ensures refused { OnErr result (KeepsHandles self.old self.new) }
+        ensures grows { Grows self.old self.new 1 }
+        ensures no_more { OnErr result (Grows self.old self.new 0) }
         ensures cause { IfErr result (IsCauseFor self.old row) }
         ensures over_budget { node_count self.old ≡ self.old.budget →
             result ≡ Err (Refusal.OverBudget self.old.budget (handle_count self.old)) }
-        ensures sound { IsSound self.new }
     {
         if self.nodes == self.budget {
             return Err(Refusal::OverBudget {

@@ -24,8 +24,8 @@ impl Store {
         node == NodeNo::YES
     }
 
-    /// Whether two handles have one value for every assignment. They stand on one node then, since two different nodes have
-    /// different values (Bryant 1986).
+    /// Whether two handles have one value for every assignment. They stand on one node then, since two different nodes
+    /// have different values (Bryant 1986).
     pub fn same(&self, a: &Handle, b: &Handle) -> bool
         requires a_live { IsLive self.now a.now }
         requires b_live { IsLive self.now b.now }

@@ -5,23 +5,25 @@ use crate::refusal::AddRefusal;
 use crate::row::Var;
 use crate::store::Store;
 use crate::store::room::push_within_capacity;
+use std::alloc::Global;
 
 /// How many variables a table may have.
 pub const MAX_VARIABLES: u32 = 4096;
 
 impl Store {
-    ghost use Rattle.dd_store.specs.Table.{IsSound, IsVariable, IsAbove, level_of, value_of};
-    ghost use Rattle.dd_store.specs.Changes.{KeepsHandles, KeepsRowsAndBudget};
+    ghost use Rattle.dd_store.specs.Limits.{most_variables};
+    ghost use Rattle.dd_store.specs.Table.{IsSound, IsVariable, level_of, value_of};
+    ghost use Rattle.dd_store.specs.Changes.{KeepsRowsAndBudget};
+    ghost use Rattle.dd_store.specs.Handles.{KeepsHandles};
 
     /// Adds a variable, which stands last in the order. Its number is the number of variables before it.
-    pub fn add_variable(&mut self) -> Result<Var, AddRefusal>
+    pub fn add_variable(&mut self, alloc: Global) -> Result<Var, AddRefusal>
         ensures number { IfOk result (λ v. v.0 ≡ length self.old.order) }
         ensures last { IfOk result (λ v. self.new.order ≡ self.old.order ++ v ∷ []) }
         ensures level { IfOk result (λ v. level_of self.new v.0 ≡ length self.old.order) }
-        ensures too_many { (result ≡ Err AddRefusal.TooManyVariables) ↔ (length self.old.order ≡ 4096) }
+        ensures too_many { (result ≡ Err AddRefusal.TooManyVariables) ↔ (length self.old.order ≡ most_variables) }
         ensures refused { OnErr result (self.new.order ≡ self.old.order) }
         ensures levels { (v : ℕ) → IsVariable self.old v → level_of self.new v ≡ level_of self.old v }
-        ensures above { (v n : ℕ) → IsVariable self.old v → IsAbove self.old v n → IsAbove self.new v n }
         ensures handles { KeepsHandles self.old self.new }
         ensures nodes { KeepsRowsAndBudget self.old self.new }
         ensures values { (n : ℕ) (a : ℕ → Bool) → value_of self.new n a ≡ value_of self.old n a }

@@ -4,7 +4,7 @@ use Rattle.dd_store.specs.Table.{value_of}
 use Rattle.uvl_compile.specs.declared.outline.Entry.{Entry}
 use Rattle.uvl_compile.specs.Choice.{is_allowed}
 use Rattle.uvl_compile.specs.Row.{places_of}
-use Rattle.uvl_compile.proofs.Growing.{gains_one}
+use Rattle.dd_store.proofs.CountLemmas.{gains_one}
 use Rattle.uvl_compile.proofs.Rows.{root_places, only_one}
 use Rattle.uvl_compile.proofs.products.compile.Goals as goal
 

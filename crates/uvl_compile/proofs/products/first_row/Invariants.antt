@@ -1,7 +1,7 @@
 -- The row is that of the features from this one on.
 use Rattle.std.proofs.Common.{◌≤◌, ◌-◌, ◌*◌, length, drop}
-use Rattle.dd_store.specs.Table.{IsSound}
-use Rattle.uvl_compile.specs.Held.{HoldsMore, Grows}
+use Rattle.dd_store.specs.Changes.{Grows}
+use Rattle.dd_store.specs.Handles.{HoldsMore}
 use Rattle.uvl_compile.specs.Nodes.{nodes_per_feature}
 use Rattle.uvl_compile.specs.Row.{IsRow}
 use Rattle.uvl_compile.proofs.products.first_row.Given as goal
@@ -11,7 +11,6 @@ invariant-loop-feature l = record {
   row : IsRow l.store l.feature (drop l.feature l.entries) l.row.items;
   held : HoldsMore l.fn.store l.store l.row.items;
   grows : Grows l.fn.store l.store (nodes_per_feature * (length l.entries - l.feature));
-  sound : IsSound l.store;
   within : l.feature ≤ length l.entries;
 }
 

@@ -1,6 +1,6 @@
 -- The variable stands last.
 use Rattle.std.proofs.Common.{rules, ◌≡◌, ◌≢◌, length, ◌∙◌, [], ◌∷◌, ◌++◌, ap}
-use Rattle.dd_store.proofs.OrderLemmas.{kept-with_variable, sound-with_variable, value_of-with_variable, level_in-push, level_of-with_variable, above-with_variable}
+use Rattle.dd_store.proofs.OrderLemmas.{kept-with_variable, sound-with_variable, value_of-with_variable, level_in-push, level_of-with_variable}
 use Rattle.dd_store.proofs.store.Store.add_variable.Goals as goal
 
 order : (c : goal.After-push_within_capacity) → c.push_within_capacity.new.items.items ≡ c.self.inside.order.items ++ record { 0 = c.len-count.result } ∷ []
@@ -25,9 +25,6 @@ returns-clause-values c = λ n a.
 
 pub returns-clause-levels : goal.returns-clause-levels
 returns-clause-levels c = rw (order c, ← c.self.view_is) (level_in-push c.self.inside.order.items (record { 0 = c.len-count.result }))
-
-pub returns-clause-above : goal.returns-clause-above
-returns-clause-above c = rw (order c, ← c.self.view_is) (above-with_variable _ (record { 0 = c.len-count.result }) c.self.invariant.sound)
 
 pub returns-clause-level : goal.returns-clause-level
 returns-clause-level c = rw (order c, ← c.self.view_is) (level_of-with_variable _ (record { 0 = c.len-count.result }) c.self.invariant.sound (next c))

@@ -6,4 +6,4 @@ use Rattle.dd_store.proofs.store.Store.constant.Goals as goal
 pub returns-clause-value : goal.returns-clause-value
 returns-clause-value c =
     let place : IfOk c.hold.result (λ h. h ≡ (if c.args.value then 1 else 0)) = search rules in
-    constant-value _ _ _ c.hold.ensures.sound place
+    constant-value _ _ _ c.hold.ensures.grows.keeps.sound place

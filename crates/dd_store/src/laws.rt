@@ -1,0 +1,7 @@
+//! Laws of the definitions. The functions do nothing: what they ensure is the law.
+ghost use Rattle.dd_store.specs.Law.{ValuesTellLevels};
+
+/// A node stands on a level or below it exactly where its value depends on no variable above that level.
+pub fn values_tell_levels()
+    ensures { ValuesTellLevels }
+{}
