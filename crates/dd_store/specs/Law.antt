@@ -1,10 +1,11 @@
--- Laws of reduced rows (Bryant 1986), for every order of the variables.
-use Rattle.std.specs.Prelude.{◌≡◌, ◌↔◌, ◌<◌, ◌≤◌, ℕ, Bool, List, length, Option}
+-- Laws of reduced rows (Bryant 1986), for every order of the variables; and that changes compose.
+use Rattle.std.specs.Prelude.{◌≡◌, ◌↔◌, ◌+◌, ◌<◌, ◌≤◌, ℕ, Bool, List, length, Option}
 use Rattle.dd_store.specs.declared.row.Row.{Row}
 use Rattle.dd_store.specs.declared.row.Var.{Var}
 use Rattle.dd_store.specs.Follow.{value_in, with_value, IsThere}
 use Rattle.dd_store.specs.Order.{level_in, level_of_row}
-use Rattle.dd_store.specs.Table.{AreReduced}
+use Rattle.dd_store.specs.Table.{Table, AreReduced, IsLive}
+use Rattle.dd_store.specs.Changes.{Grows}
 
 -- two numbers have one value for every assignment
 abbrev pub HaveSameValuesIn : List Var → (ℕ → Option Row) → ℕ → ℕ → Type 0
@@ -27,3 +28,9 @@ ValuesTellLevels =
     (order : List Var) (rows : ℕ → Option Row) → AreReduced order rows →
     (n l : ℕ) → IsThere rows n → l ≤ length order →
     (l ≤ level_of_row order (rows n)) ↔ DependsOnNoneAbove order rows l n
+
+-- One change behind another is a change by both, where what is live at both ends is so between them.
+abbrev pub ChangesCompose : Type 0
+ChangesCompose =
+    (a b c : Table) (k j : ℕ) → Grows a b k → Grows b c j → ((n : ℕ) → IsLive a n → IsLive c n → IsLive b n) →
+    Grows a c (k + j)

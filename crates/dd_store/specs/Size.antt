@@ -1,5 +1,6 @@
 -- How many nodes functions need over an order, counted without a table (Bryant 1986): their different cofactors.
-use Rattle.std.specs.Prelude.{ℕ, suc, Bool, true, false, not, ◌&&◌, ◌||◌, List, [], ◌∷◌, ◌++◌, length, map, filter, if◌then◌else◌, Option, Some, None, slice_get}
+use Rattle.std.specs.Prelude.{ℕ, suc, Bool, true, false, not, ◌&&◌, ◌||◌, if◌then◌else◌, Option, Some, None}
+use Rattle.std.specs.Prelude.{List, [], ◌∷◌, ◌++◌, length, map, filter, slice_get}
 use Rattle.std.specs.List.{list_any, list_all, flat_map}
 use Rattle.std.specs.Bool.{beq}
 use Prim.Native.Nat.{zero}
@@ -46,9 +47,12 @@ without_repetition (t ∷ ts) = if list_any (same_truths t) ts then without_repe
 abbrev pub is_constant : List Bool → Bool
 is_constant ts = list_all (λ b. b) ts || list_all not ts
 
--- how many different functions, without the two constants, are got from a function of the list by fixing the first i variables
+-- how many different functions, without the two constants, are got from a function of the list by fixing the first i
+-- variables
 abbrev pub size : List Var → List Function → ℕ
-size order fs = length (without_repetition (filter (λ t. not (is_constant t)) (flat_map (λ f. map (truths order) (cofactors order f)) fs)))
+size order fs =
+    length (without_repetition
+    (filter (λ t. not (is_constant t)) (flat_map (λ f. map (truths order) (cofactors order f)) fs)))
 
 -- whether a function depends on a variable
 abbrev pub depends_on : List Var → ℕ → Function → Bool
@@ -61,4 +65,6 @@ dependent order (Some v) fs = filter (depends_on order v.0) fs
 
 -- how many of them are got by fixing exactly the first i variables and depend on the next one
 abbrev pub level_size : List Var → List Function → ℕ → ℕ
-level_size order fs i = length (without_repetition (map (truths order) (dependent order (slice_get order i) (flat_map (cofactors_at i order) fs))))
+level_size order fs i =
+    length (without_repetition
+    (map (truths order) (dependent order (slice_get order i) (flat_map (cofactors_at i order) fs))))

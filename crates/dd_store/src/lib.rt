@@ -8,7 +8,7 @@ mod row;
 mod store;
 
 pub use handle::Handle;
-pub use laws::values_tell_levels;
+pub use laws::{changes_compose, values_tell_levels};
 pub use refusal::{AddRefusal, OutOfMemory, Refusal};
 pub use row::{NodeNo, Row, Var};
 pub use store::{LEAST_BUDGET, MAX_VARIABLES, MOST_BUDGET, Store};
