@@ -1,4 +1,5 @@
 //! The diagram of a thin model, against the products that its file has by hand.
+use crate::store::expect_values;
 use crate::texts::{PRODUCTS_OF_THIN, THIN, model_of};
 use dd_store::Store;
 use std::test::Fail;
@@ -13,12 +14,10 @@ fn the_diagram_of_a_thin_model_has_its_products(rt: HostRuntime) -> Result<(), F
     let mut store = Store::new(alloc, 192)?;
     add_variables(alloc, &mut store, 3)?;
     let products = compile(alloc, &mut store, &model)?;
-    for (chosen, product) in PRODUCTS_OF_THIN {
-        assert_eq!(rt; store.value(&products, &chosen), product, "{chosen:?}");
-    }
-    assert_eq!(rt; store.constant_of(&products), None);
+    expect_values(&rt, &store, &products, &PRODUCTS_OF_THIN);
+    assert!(rt; store.constant_of(&products) == None);
     // A node for each feature where its parent is chosen, but for the radio, and for body and radio
     // one where it isn't.
-    assert_eq!(rt; store.nodes(), 4);
+    assert!(rt; store.nodes() == 4);
     Ok(())
 }

@@ -3,6 +3,7 @@ ghost use Rattle.std.specs.Prelude.{◌≡◌, ◌≤◌};
 ghost use Rattle.uvl_script.specs.declared.command.Command.{Command as CommandValue};
 
 use std::alloc::Global;
+use std::process::Abort;
 use std::test::Fail;
 use uvl_lines::{AnswerFault, Answerer, Ending, answer_lines};
 use uvl_outside::{FetchFault, Files, MemFiles, MemSink, MemSource};
@@ -75,20 +76,30 @@ const ROWS: [Row; 7] = [
     (b"valid\nvalid", [&[], &[1], &[]], Ending::InputFailed, b""),
 ];
 
-#[test]
-fn lines_are_answered_one_after_another_in_any_pieces(rt: HostRuntime) -> Result<(), Fail> {
-    let alloc = rt.alloc();
-    for (script, fail, ending, written) in ROWS {
-        for size in [1, 2, 7, 64] {
-            let mut files = MemFiles::new(alloc, fail[0])?;
-            files.add(alloc, "m", b"file\n.\n")?;
-            let mut input = MemSource::new(alloc, script, &[size; 32], fail[1])?;
-            let mut out = MemSink::new(alloc, fail[2])?;
-            let mut counter = Counter { count: 0 };
-            let ended = answer_lines(alloc, &mut counter, &mut files, &mut input, &mut out);
-            assert_eq!(rt; ended, ending, "{script:?} by {size}");
-            assert!(rt; out.bytes() == written, "{script:?} by {size}");
-        }
+/// Answers a script in pieces of a size, and compares how it ends and what is written.
+fn expect(rt: &impl Abort, alloc: Global, row: &Row, size: usize) -> Result<(), Fail> {
+    let (script, fail, ending, written) = row;
+    let mut files = MemFiles::new(alloc, fail[0])?;
+    files.add(alloc, "m", b"file\n.\n")?;
+    let mut input = MemSource::new(alloc, script, &[size; 32], fail[1])?;
+    let mut out = MemSink::new(alloc, fail[2])?;
+    let mut counter = Counter { count: 0 };
+    let ended = answer_lines(alloc, &mut counter, &mut files, &mut input, &mut out);
+    assert_eq!(rt; ended, *ending, "{script:?} by {size}");
+    assert!(rt; out.bytes() == *written, "{script:?} by {size}");
+    Ok(())
+}
+
+fn expect_rows(rt: &impl Abort, alloc: Global, rows: &[Row]) -> Result<(), Fail> {
+    for row in rows {
+        expect(rt, alloc, row, 1)?;
+        expect(rt, alloc, row, 7)?;
+        expect(rt, alloc, row, 64)?;
     }
     Ok(())
+}
+
+#[test]
+fn lines_are_answered_one_after_another_in_any_pieces(rt: HostRuntime) -> Result<(), Fail> {
+    expect_rows(&rt, rt.alloc(), &ROWS)
 }

@@ -5,8 +5,9 @@ ghost use Rattle.uvl_model.specs.Products.{ProductsOfTree};
 ghost use Rattle.uvl_tests.specs.Examples.{thin_tree, two_or_three, unfittable, void_tree, products_of};
 
 use crate::texts::{PRODUCTS_OF_THIN, THIN, model_of};
+use std::process::Abort;
 use std::test::Fail;
-use uvl_model::{FeatureNo, NameIndex};
+use uvl_model::{FeatureNo, Model, NameIndex};
 
 /// The definitions on the examples. What it ensures is all of it.
 fn products_of_examples()
@@ -22,28 +23,43 @@ fn products_of_examples()
     ensures void { is_void (ProductsOfTree void_tree) ≡ true }
 {}
 
+fn expect_products(rt: &impl Abort, model: &Model, rows: &[(&[bool], bool)]) {
+    for (chosen, product) in rows {
+        assert!(rt; chosen.len() == model.features().len());
+        assert!(rt; model.is_product(chosen) == *product, "{chosen:?}");
+    }
+}
+
+/// Names, and the numbers that features with these names have.
+const FOUND: [(&str, Option<FeatureNo>); 3] = [
+    ("Car", Some(FeatureNo(0))),
+    ("Radio", Some(FeatureNo(2))),
+    ("Wheel", None),
+];
+
+fn expect_found(rt: &impl Abort, model: &Model, rows: &[(&str, Option<FeatureNo>)]) {
+    for (name, number) in rows {
+        assert!(rt; model.find(name) == *number, "{name}");
+    }
+}
+
 #[test]
 fn a_thin_model_finds_its_features_and_knows_its_products(rt: HostRuntime) -> Result<(), Fail> {
     products_of_examples();
     let model = model_of(rt.alloc(), THIN)??;
-    assert_eq!(rt; model.find("Car"), Some(FeatureNo(0)));
-    assert_eq!(rt; model.find("Radio"), Some(FeatureNo(2)));
-    assert_eq!(rt; model.find("Wheel"), None);
+    expect_found(&rt, &model, &FOUND);
+    expect_products(&rt, &model, &PRODUCTS_OF_THIN);
     assert_eq!(rt; model.groups().len(), 2);
-    assert!(rt; model.features().len() == 3);
-    for (chosen, product) in PRODUCTS_OF_THIN {
-        assert_eq!(rt; model.is_product(&chosen), product, "{chosen:?}");
-    }
     Ok(())
 }
 
 #[test]
 fn a_name_is_added_once(rt: HostRuntime) -> Result<(), Fail> {
     let mut names = NameIndex::new(rt.alloc());
-    for (name, added) in [("Full Grain", true), ("größe", true), ("größe", false)] {
-        assert_eq!(rt; names.add(name)?, added, "{name}");
-    }
-    assert_eq!(rt; names.find("größe"), Some(FeatureNo(1)));
-    assert_eq!(rt; names.find("Größe"), None);
+    assert!(rt; names.add("Full Grain")?);
+    assert!(rt; names.add("größe")?);
+    assert!(rt; !names.add("größe")?);
+    assert!(rt; names.find("größe") == Some(FeatureNo(1)));
+    assert!(rt; names.find("Größe") == None);
     Ok(())
 }

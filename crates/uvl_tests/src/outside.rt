@@ -1,4 +1,5 @@
 //! The objects in memory against their plans, and the thin edges over real files and streams.
+use crate::texts::joined;
 use std::alloc::Global;
 use std::fs::OpenOptions;
 use std::io::BufWriter;
@@ -14,8 +15,10 @@ use uvl_outside::{
 fn expect_pieces(rt: &impl Abort, source: &mut impl Source, want: &[Result<&[u8], Failed>]) {
     for piece in want {
         let mut buffer = [0; 4];
-        let taken = source.take(&mut buffer).map(|count| &buffer[..count]);
-        assert!(rt; taken == *piece);
+        match source.take(&mut buffer) {
+            Ok(count) => assert!(rt; Ok(&buffer[..count]) == *piece),
+            Err(fault) => assert!(rt; Err(fault) == *piece),
+        }
     }
 }
 
@@ -44,39 +47,57 @@ fn expect_fetches(rt: &impl Abort, alloc: Global, files: &mut impl Files, rows: 
     }
 }
 
+/// Pieces of `abcdefgh`, in the planned sizes, of which a take fails.
+const PIECES: [Result<&[u8], Failed>; 6] = [
+    Ok(b"a"),
+    Err(Failed),
+    Ok(b"bc"),
+    Ok(b"defg"),
+    Ok(b"h"),
+    Ok(b""),
+];
+
+const SURE_PIECES: [Result<&[u8], Failed>; 3] = [Ok(b"abcd"), Ok(b"e"), Ok(b"")];
+
 #[test]
 fn sources_in_memory_give_the_planned_sizes_and_faults(rt: HostRuntime) -> Result<(), Fail> {
     let mut source = MemSource::new(rt.alloc(), b"abcdefgh", &[0, 2, 9], &[2])?;
-    let want: [Result<&[u8], Failed>; 6] = [
-        Ok(b"a"),
-        Err(Failed),
-        Ok(b"bc"),
-        Ok(b"defg"),
-        Ok(b"h"),
-        Ok(b""),
-    ];
-    expect_pieces(&rt, &mut source, &want);
+    expect_pieces(&rt, &mut source, &PIECES);
     let mut source = SureSource::new(rt.alloc(), b"abcde")?;
-    expect_pieces(&rt, &mut source, &[Ok(b"abcd"), Ok(b"e"), Ok(b"")]);
+    expect_pieces(&rt, &mut source, &SURE_PIECES);
     Ok(())
 }
+
+const PUTS: [(&[u8], Result<(), PutFault>); 3] = [
+    (b"ab", Ok(())),
+    (b"cd", Err(PutFault::Failed)),
+    (b"e", Ok(())),
+];
+
+const SURE_PUTS: [(&[u8], Result<(), PutFault>); 2] = [(b"ab", Ok(())), (b"e", Ok(()))];
 
 #[test]
 fn sinks_in_memory_keep_all_but_what_fails_as_planned(rt: HostRuntime) -> Result<(), Fail> {
     let mut sink = MemSink::new(rt.alloc(), &[2])?;
-    let pieces: [(&[u8], Result<(), PutFault>); 3] = [
-        (b"ab", Ok(())),
-        (b"cd", Err(PutFault::Failed)),
-        (b"e", Ok(())),
-    ];
-    expect_puts(&rt, rt.alloc(), &mut sink, &pieces);
+    expect_puts(&rt, rt.alloc(), &mut sink, &PUTS);
     assert!(rt; sink.bytes() == b"abe".as_slice());
     let mut sink = SureSink::new(rt.alloc());
-    expect_puts(&rt, rt.alloc(), &mut sink, &pieces[..1]);
-    expect_puts(&rt, rt.alloc(), &mut sink, &pieces[2..]);
+    expect_puts(&rt, rt.alloc(), &mut sink, &SURE_PUTS);
     assert!(rt; sink.bytes() == b"abe".as_slice());
     Ok(())
 }
+
+/// The first fetch fails.
+const FETCHES: [Fetch; 2] = [
+    ("a", Err(FetchFault::Failed), b""),
+    ("a", Ok(Fetched::Whole), b"new"),
+];
+
+const SURE_FETCHES: [Fetch; 3] = [
+    ("five", Ok(Fetched::Whole), b"12345"),
+    ("six", Ok(Fetched::TooLong), b""),
+    ("none", Ok(Fetched::Absent), b""),
+];
 
 #[test]
 fn files_in_memory_are_fetched_or_fail_as_planned(rt: HostRuntime) -> Result<(), Fail> {
@@ -84,42 +105,46 @@ fn files_in_memory_are_fetched_or_fail_as_planned(rt: HostRuntime) -> Result<(),
     let mut files = MemFiles::new(alloc, &[1])?;
     files.add(alloc, "a", b"old")?;
     files.add(alloc, "a", b"new")?;
-    let rows: [Fetch; 2] = [
-        ("a", Err(FetchFault::Failed), b""),
-        ("a", Ok(Fetched::Whole), b"new"),
-    ];
-    expect_fetches(&rt, alloc, &mut files, &rows);
+    expect_fetches(&rt, alloc, &mut files, &FETCHES);
     let mut files = SureFiles::new(alloc);
     files.add(alloc, "five", b"12345")?;
     files.add(alloc, "six", b"123456")?;
-    let rows: [Fetch; 3] = [
-        ("five", Ok(Fetched::Whole), b"12345"),
-        ("six", Ok(Fetched::TooLong), b""),
-        ("none", Ok(Fetched::Absent), b""),
-    ];
-    expect_fetches(&rt, alloc, &mut files, &rows);
+    expect_fetches(&rt, alloc, &mut files, &SURE_FETCHES);
     Ok(())
 }
+
+const REAL_FETCHES: [Fetch; 7] = [
+    ("uvl_outside_five", Ok(Fetched::Whole), b"12345"),
+    ("uvl_outside_six", Ok(Fetched::TooLong), b""),
+    ("uvl_outside_none", Ok(Fetched::Absent), b""),
+    ("uvl_outside_five/below", Ok(Fetched::Absent), b""),
+    ("a\0b", Ok(Fetched::Absent), b""),
+    ("", Ok(Fetched::Absent), b""),
+    (".", Err(FetchFault::Failed), b""),
+];
 
 #[test]
 fn real_files_are_fetched(rt: HostRuntime) -> Result<(), Fail> {
     let alloc = rt.alloc();
     fs::write(&rt, "uvl_outside_five", "12345")?;
     fs::write(&rt, "uvl_outside_six", "123456")?;
-    let long = String::from_utf8(vec![in alloc; b'x'; 300]?)?;
-    let longer = String::from_utf8(vec![in alloc; b'x'; 5000]?)?;
-    let rows: [Fetch; 9] = [
-        ("uvl_outside_five", Ok(Fetched::Whole), b"12345"),
-        ("uvl_outside_six", Ok(Fetched::TooLong), b""),
-        ("uvl_outside_none", Ok(Fetched::Absent), b""),
-        ("uvl_outside_five/below", Ok(Fetched::Absent), b""),
-        ("a\0b", Ok(Fetched::Absent), b""),
-        ("", Ok(Fetched::Absent), b""),
-        (".", Err(FetchFault::Failed), b""),
-        (long.as_str(), Ok(Fetched::Absent), b""),
-        (longer.as_str(), Ok(Fetched::Absent), b""),
-    ];
-    expect_fetches(&rt, alloc, &mut HostFiles::new(rt), &rows);
+    let mut files = HostFiles::new(rt);
+    expect_fetches(&rt, alloc, &mut files, &REAL_FETCHES);
+    // paths that are too long, for a name and at all
+    let long = joined(alloc, &[("x", 300)])?;
+    let longer = joined(alloc, &[("x", 5000)])?;
+    expect_fetches(
+        &rt,
+        alloc,
+        &mut files,
+        &[(long.as_str(), Ok(Fetched::Absent), b"")],
+    );
+    expect_fetches(
+        &rt,
+        alloc,
+        &mut files,
+        &[(longer.as_str(), Ok(Fetched::Absent), b"")],
+    );
     fs::remove_file(&rt, "uvl_outside_five")?;
     fs::remove_file(&rt, "uvl_outside_six")?;
     Ok(())

@@ -205,27 +205,33 @@ fn expect(rt: &impl Abort, alloc: Global, text: &str, want: &str) -> Result<(), 
     Ok(())
 }
 
-#[test]
-fn each_construct_is_read_into_its_tree(rt: HostRuntime) -> Result<(), Fail> {
-    for (text, tree) in ACCEPTED {
-        expect(&rt, rt.alloc(), text, tree)?;
+fn expect_rows(rt: &impl Abort, alloc: Global, rows: &[(&str, &str)]) -> Result<(), Fail> {
+    for (text, want) in rows {
+        expect(rt, alloc, text, want)?;
+    }
+    Ok(())
+}
+
+fn expect_joined(rt: &impl Abort, alloc: Global, rows: &[(Parts, &str)]) -> Result<(), Fail> {
+    for (parts, want) in rows {
+        expect(rt, alloc, joined(alloc, parts)?.as_str(), want)?;
     }
     Ok(())
 }
 
 #[test]
+fn each_construct_is_read_into_its_tree(rt: HostRuntime) -> Result<(), Fail> {
+    expect_rows(&rt, rt.alloc(), &ACCEPTED)
+}
+
+#[test]
 fn each_refusal_has_its_place_and_its_kind(rt: HostRuntime) -> Result<(), Fail> {
-    let alloc = rt.alloc();
-    for (text, fault) in REFUSED {
-        expect(&rt, alloc, text, fault)?;
-    }
-    for (parts, fault) in LARGE {
-        expect(&rt, alloc, joined(alloc, parts)?.as_str(), fault)?;
-    }
+    expect_rows(&rt, rt.alloc(), &REFUSED)?;
+    expect_joined(&rt, rt.alloc(), &LARGE)?;
     expect(
         &rt,
-        alloc,
-        chain(alloc, 65, "")?.as_str(),
+        rt.alloc(),
+        chain(rt.alloc(), 65, "")?.as_str(),
         "130:130 TooDeep",
     )
 }

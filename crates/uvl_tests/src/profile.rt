@@ -9,24 +9,28 @@ use uvl_base::FaultKind::{
 };
 use uvl_base::Place;
 use uvl_faults::first_named;
-use uvl_profile::{Candidate, first_met};
-
-/// Where the first is, and what it is there.
-fn first(alloc: Global, text: &str) -> Result<Option<(Place, Candidate)>, Fail> {
-    let tokens = tokens_of(alloc, text)?;
-    match first_met(alloc, &tokens)? {
-        Some(found) => Ok(Some((tokens[found.index].place, found))),
-        None => Ok(None),
-    }
-}
+use uvl_profile::first_met;
 
 /// Line, column and kind of a fault.
 type At = (u32, u32, FaultKind);
 
+/// Where the first is, and what it is there.
+fn first(rt: &impl Abort, alloc: Global, text: &str) -> Result<Option<At>, Fail> {
+    let tokens = tokens_of(alloc, text)?;
+    let met = first_met(alloc, &tokens)?;
+    assert!(rt; first_named(alloc, &tokens)? == met, "{text:?}");
+    match met {
+        Some(found) => {
+            let Place { line, column } = tokens[found.index].place;
+            Ok(Some((line, column, found.met.alive)))
+        }
+        None => Ok(None),
+    }
+}
+
 fn expect(rt: &impl Abort, alloc: Global, text: &str, want: Option<At>) -> Result<(), Fail> {
-    let found = first(alloc, text)?;
-    let at = found.map(|(place, found)| (place.line, place.column, found.met.alive));
-    assert_eq!(rt; at, want, "{text:?}");
+    let found = first(rt, alloc, text)?;
+    assert_eq!(rt; found, want, "{text:?}");
     Ok(())
 }
 
@@ -200,29 +204,26 @@ fn lines_nest_128_deep_and_a_rule_has_8192_nodes(rt: HostRuntime) -> Result<(), 
     expect_joined(&rt, rt.alloc(), &NODES)
 }
 
-#[test]
-fn features_nest_64_deep(rt: HostRuntime) -> Result<(), Fail> {
-    let alloc = rt.alloc();
-    let rows = [
-        (64, "Boolean ", None),
-        (65, "", Some((130, 130, TooDeep))),
-        (66, "", Some((130, 130, TooDeep))),
-        (65, "Boolean ", Some((130, 138, TooDeep))),
-    ];
+/// How deep features nest, and what the last line begins with.
+const DEPTHS: [(usize, &str, Option<At>); 4] = [
+    (64, "Boolean ", None),
+    (65, "", Some((130, 130, TooDeep))),
+    (66, "", Some((130, 130, TooDeep))),
+    (65, "Boolean ", Some((130, 138, TooDeep))),
+];
+
+fn expect_chains(
+    rt: &impl Abort,
+    alloc: Global,
+    rows: &[(usize, &str, Option<At>)],
+) -> Result<(), Fail> {
     for (depth, word, want) in rows {
-        expect(&rt, alloc, chain(alloc, depth, word)?.as_str(), want)?;
+        expect(rt, alloc, chain(alloc, *depth, word)?.as_str(), *want)?;
     }
     Ok(())
 }
 
 #[test]
-fn the_first_met_is_the_first_named(rt: HostRuntime) -> Result<(), Fail> {
-    let alloc = rt.alloc();
-    for (text, want) in WORDS {
-        let tokens = tokens_of(alloc, text)?;
-        let found = first_named(alloc, &tokens)?;
-        let at = found.map(|found| (tokens[found.index].place.line, found.met.alive));
-        assert_eq!(rt; at, want.map(|(line, _, kind)| (line, kind)), "{text:?}");
-    }
-    Ok(())
+fn features_nest_64_deep(rt: HostRuntime) -> Result<(), Fail> {
+    expect_chains(&rt, rt.alloc(), &DEPTHS)
 }

@@ -1,5 +1,7 @@
 //! A model of both kinds of groups, row by row, and each cause for which no model is made.
 use crate::texts::{chain, model_of};
+use std::alloc::Global;
+use std::fmt::Write;
 use std::process::Abort;
 use std::test::Fail;
 use uvl_model::{FeatureNo, FeatureRow, GroupRow};
@@ -24,46 +26,59 @@ const CAR: &str = "namespace Cars\n\
     \t\t\t\toptional\n\
     \t\t\t\t\tAntenna\n";
 
-const FEATURES: [(&str, Option<u32>); 8] = [
+/// The names of features, and the numbers of their parents.
+const FEATURES: [(&str, Option<FeatureNo>); 8] = [
     ("Car", None),
-    ("Body", Some(0)),
-    ("Engine", Some(0)),
-    ("Turbo", Some(2)),
-    ("Cooler", Some(3)),
-    ("Hybrid", Some(2)),
-    ("Radio", Some(0)),
-    ("Antenna", Some(6)),
+    ("Body", Some(FeatureNo(0))),
+    ("Engine", Some(FeatureNo(0))),
+    ("Turbo", Some(FeatureNo(2))),
+    ("Cooler", Some(FeatureNo(3))),
+    ("Hybrid", Some(FeatureNo(2))),
+    ("Radio", Some(FeatureNo(0))),
+    ("Antenna", Some(FeatureNo(6))),
 ];
 
-const GROUPS: [(u32, u32, u32, &[FeatureNo]); 5] = [
-    (0, 2, 2, &[FeatureNo(1), FeatureNo(2)]),
-    (2, 0, 2, &[FeatureNo(3), FeatureNo(5)]),
-    (3, 1, 1, &[FeatureNo(4)]),
-    (0, 0, 1, &[FeatureNo(6)]),
-    (6, 0, 1, &[FeatureNo(7)]),
+/// The parents of groups, their bounds and their members.
+const GROUPS: [(FeatureNo, u32, u32, &[FeatureNo]); 5] = [
+    (FeatureNo(0), 2, 2, &[FeatureNo(1), FeatureNo(2)]),
+    (FeatureNo(2), 0, 2, &[FeatureNo(3), FeatureNo(5)]),
+    (FeatureNo(3), 1, 1, &[FeatureNo(4)]),
+    (FeatureNo(0), 0, 1, &[FeatureNo(6)]),
+    (FeatureNo(6), 0, 1, &[FeatureNo(7)]),
 ];
 
-fn expect_features(rt: &impl Abort, features: &[FeatureRow]) {
-    assert_eq!(rt; features.len(), FEATURES.len());
-    for (row, (name, parent)) in features.iter().zip(FEATURES) {
-        assert_eq!(rt; row.name.text(), name);
-        assert_eq!(rt; row.parent, parent.map(FeatureNo));
+fn expect_features(rt: &impl Abort, rows: &[FeatureRow], wanted: &[(&str, Option<FeatureNo>)]) {
+    assert!(rt; rows.len() == wanted.len());
+    for index in 0..rows.len() {
+        let (name, parent) = wanted[index];
+        let row = &rows[index];
+        assert!(rt; row.name.text() == name, "{name}");
+        assert!(rt; row.parent == parent, "{name}");
     }
 }
 
-fn expect_groups(rt: &impl Abort, groups: &[GroupRow]) {
-    assert_eq!(rt; groups.len(), GROUPS.len());
-    for (row, (parent, lo, hi, members)) in groups.iter().zip(GROUPS) {
-        assert_eq!(rt; (row.parent.0, row.lo, row.hi), (parent, lo, hi));
-        assert_eq!(rt; row.members.as_slice(), members);
+fn expect_groups(
+    rt: &impl Abort,
+    rows: &[GroupRow],
+    wanted: &[(FeatureNo, u32, u32, &[FeatureNo])],
+) {
+    assert!(rt; rows.len() == wanted.len());
+    for index in 0..rows.len() {
+        let (parent, lo, hi, members) = wanted[index];
+        let row = &rows[index];
+        assert!(rt;
+            row.parent == parent && row.lo == lo && row.hi == hi,
+            "{index}"
+        );
+        assert!(rt; row.members.as_slice() == members, "{index}");
     }
 }
 
 #[test]
 fn the_rows_stand_as_the_walk_meets_them(rt: HostRuntime) -> Result<(), Fail> {
     let model = model_of(rt.alloc(), CAR)??;
-    expect_features(&rt, model.features());
-    expect_groups(&rt, model.groups());
+    expect_features(&rt, model.features(), &FEATURES);
+    expect_groups(&rt, model.groups(), &GROUPS);
     Ok(())
 }
 
@@ -95,32 +110,37 @@ const FILES: [(&str, bool); 12] = [
     ("", false),
 ];
 
-#[test]
-fn a_file_that_says_more_than_a_tree_is_not_built(rt: HostRuntime) -> Result<(), Fail> {
-    for (text, built) in FILES {
-        let fault = model_of(rt.alloc(), text)?.err();
-        let wanted = if built {
-            None
-        } else {
-            Some(ResolveFault::NotBuilt)
-        };
-        assert_eq!(rt; fault, wanted, "{text:?}");
+fn expect(rt: &impl Abort, alloc: Global, text: &str, built: bool) -> Result<(), Fail> {
+    match model_of(alloc, text)? {
+        Ok(_) => assert!(rt; built, "{text:?}"),
+        Err(fault) => assert!(rt; !built && fault == ResolveFault::NotBuilt, "{text:?}"),
     }
     Ok(())
 }
 
-#[test]
-fn a_model_has_2048_features_at_most(rt: HostRuntime) -> Result<(), Fail> {
-    let alloc = rt.alloc();
-    for (members, built) in [(2047, true), (2048, false), (2049, false)] {
-        let mut text = String::from_str(alloc, "features\n\tCar\n\t\toptional\n")?;
-        for member in 0..members {
-            let line = format!(in alloc; "\t\t\tf{member}\n")?;
-            text.push_str(line.as_str())?;
-        }
-        assert_eq!(rt; model_of(alloc, text.as_str())?.is_ok(), built, "{members}");
+fn expect_rows(rt: &impl Abort, alloc: Global, rows: &[(&str, bool)]) -> Result<(), Fail> {
+    for (text, built) in rows {
+        expect(rt, alloc, text, *built)?;
     }
     Ok(())
+}
+
+/// A car with so many members of one group.
+fn crowd(alloc: Global, members: u32) -> Result<String, Fail> {
+    let mut text = String::from_str(alloc, "features\n\tCar\n\t\toptional\n")?;
+    for member in 0..members {
+        write!(text, "\t\t\tf{member}\n")?;
+    }
+    Ok(text)
+}
+
+#[test]
+fn a_file_that_says_more_than_a_tree_or_too_much_is_not_built(rt: HostRuntime) -> Result<(), Fail> {
+    let alloc = rt.alloc();
+    expect_rows(&rt, alloc, &FILES)?;
+    expect(&rt, alloc, crowd(alloc, 2047)?.as_str(), true)?;
+    expect(&rt, alloc, crowd(alloc, 2048)?.as_str(), false)?;
+    expect(&rt, alloc, crowd(alloc, 2049)?.as_str(), false)
 }
 
 #[test]

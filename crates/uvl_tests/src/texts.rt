@@ -7,6 +7,7 @@ ghost use Rattle.uvl_lexer.specs.TokenList.{IsTokenList};
 ghost use Rattle.uvl_model.specs.OptionalGroups.{GroupsAreMandatoryOrOptional};
 
 use std::alloc::Global;
+use std::fmt::Write;
 use std::test::Fail;
 use uvl_ast::File;
 use uvl_base::MOST_FILE_BYTES;
@@ -20,15 +21,15 @@ pub(crate) const THIN: &str =
     "features\n\tCar\n\t\tmandatory\n\t\t\tBody\n\t\toptional\n\t\t\tRadio\n";
 
 /// Which choices of car, body and radio are products.
-pub(crate) const PRODUCTS_OF_THIN: [([bool; 3], bool); 8] = [
-    ([false, false, false], false),
-    ([false, false, true], false),
-    ([false, true, false], false),
-    ([false, true, true], false),
-    ([true, false, false], false),
-    ([true, false, true], false),
-    ([true, true, false], true),
-    ([true, true, true], true),
+pub(crate) const PRODUCTS_OF_THIN: [(&[bool], bool); 8] = [
+    (&[false, false, false], false),
+    (&[false, false, true], false),
+    (&[false, true, false], false),
+    (&[false, true, true], false),
+    (&[true, false, false], false),
+    (&[true, false, true], false),
+    (&[true, true, false], true),
+    (&[true, true, true], true),
 ];
 
 /// Pieces of a text, each so many times, one behind the other.
@@ -53,16 +54,11 @@ pub(crate) const FRONT: (&str, usize) = ("features\n\tA\nconstraints\n\t", 1);
 pub(crate) fn chain(alloc: Global, depth: usize, word: &str) -> Result<String, Fail> {
     let mut text = String::from_str(alloc, "features\n\t")?;
     for level in 1..depth {
-        let mut tabs = String::new(alloc);
-        for _ in 0..level {
-            tabs.push_str("\t\t")?;
-        }
+        let tabs = joined(alloc, &[("\t\t", level)])?;
         let tabs = tabs.as_str();
-        let line = format!(in alloc; "F{level}\n{tabs}mandatory\n{tabs}\t")?;
-        text.push_str(line.as_str())?;
+        write!(text, "F{level}\n{tabs}mandatory\n{tabs}\t")?;
     }
-    let line = format!(in alloc; "{word}F{depth}\n")?;
-    text.push_str(line.as_str())?;
+    write!(text, "{word}F{depth}\n")?;
     Ok(text)
 }
 

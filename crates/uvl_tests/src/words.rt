@@ -1,9 +1,11 @@
 //! Lists of words, and what they ask for.
+use std::alloc::Global;
+use std::process::Abort;
 use std::test::Fail;
 use uvl_words::{Request, read_words};
 
 /// Words that ask for a model with a budget.
-static ASKING: [(&[&str], &str, u32); 13] = [
+const ASKING: [(&[&str], &str, u32); 13] = [
     (&["m.uvl"], "m.uvl", 1_048_576),
     (&["m.uvl", "--"], "m.uvl", 1_048_576),
     (&["--", "m.uvl"], "m.uvl", 1_048_576),
@@ -20,7 +22,7 @@ static ASKING: [(&[&str], &str, u32); 13] = [
 ];
 
 /// Words that are refused.
-static REFUSED: [&[&str]; 28] = [
+const REFUSED: [&[&str]; 28] = [
     &[],
     &[""],
     &["--"],
@@ -51,14 +53,26 @@ static REFUSED: [&[&str]; 28] = [
     &["--budget=16", "m.uvl", "--budget=17"],
 ];
 
-#[test]
-fn words_ask_for_a_model_or_are_refused(rt: HostRuntime) -> Result<(), Fail> {
-    for (words, path, budget) in ASKING {
-        let request = read_words(rt.alloc(), words)?;
-        assert_eq!(rt; request, Some(Request::Model { path, budget }));
-    }
-    for words in REFUSED {
-        assert_eq!(rt; read_words(rt.alloc(), words)?, None, "{words:?}");
+fn expect_asked(rt: &impl Abort, alloc: Global, rows: &[(&[&str], &str, u32)]) -> Result<(), Fail> {
+    for (words, path, budget) in rows {
+        let request = Request::Model {
+            path: *path,
+            budget: *budget,
+        };
+        assert_eq!(rt; read_words(alloc, words)?, Some(request));
     }
     Ok(())
+}
+
+fn expect_refused(rt: &impl Abort, alloc: Global, rows: &[&[&str]]) -> Result<(), Fail> {
+    for words in rows {
+        assert!(rt; read_words(alloc, words)?.is_none(), "{words:?}");
+    }
+    Ok(())
+}
+
+#[test]
+fn words_ask_for_a_model_or_are_refused(rt: HostRuntime) -> Result<(), Fail> {
+    expect_asked(&rt, rt.alloc(), &ASKING)?;
+    expect_refused(&rt, rt.alloc(), &REFUSED)
 }
