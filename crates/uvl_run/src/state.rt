@@ -61,7 +61,7 @@ impl State {
     {
         let features = model.features().len();
         let mut store = Store::new(alloc, budget)?;
-        add_variables(&mut store, features)?;
+        add_variables(alloc, &mut store, features)?;
         let products = compile(alloc, &mut store, &model)?;
         let chosen = vec![in alloc; false; features]?;
         Ok(State {
