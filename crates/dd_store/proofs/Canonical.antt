@@ -15,19 +15,19 @@ abbrev pub IsAmong : List Var → Option Row → ℕ → Type 0
 IsAmong vs o n = MatchOption o (n < 2) (λ r. IsIn vs r.var.0)
 
 -- the part of the nodes that tests a variable of the list: their ends belong to it and stand below
-record IsOrderedFrom (vs : List Var) (rows : ℕ → Option Row) : Type 0 where
-  among : (n : ℕ) (r : Row) (b : Bool) → rows n ≡ Some r → IsIn vs r.var.0 → IsAmong vs (rows (end_of r b)) (end_of r b)
-  below : (n : ℕ) (r : Row) (b : Bool) → rows n ≡ Some r → IsIn vs r.var.0 → level_in vs r.var.0 < level_of_row vs (rows (end_of r b))
+pub record IsOrderedFrom (vs : List Var) (rows : ℕ → Option Row) : Type 0 where
+  pub among : (n : ℕ) (r : Row) (b : Bool) → rows n ≡ Some r → IsIn vs r.var.0 → IsAmong vs (rows (end_of r b)) (end_of r b)
+  pub below : (n : ℕ) (r : Row) (b : Bool) → rows n ≡ Some r → IsIn vs r.var.0 → level_in vs r.var.0 < level_of_row vs (rows (end_of r b))
 
 -- a node below the first variable tests one of the others
-among-rest : (v : Var) (vs : List Var) (o : Option Row) (n : ℕ) → 0 < level_of_row (v ∷ vs) o → IsAmong (v ∷ vs) o n → IsAmong vs o n
+pub among-rest : (v : Var) (vs : List Var) (o : Option Row) (n : ℕ) → 0 < level_of_row (v ∷ vs) o → IsAmong (v ∷ vs) o n → IsAmong vs o n
 among-rest v vs None n lower among = among
 among-rest v vs (Some r) n lower among =
     let level : level_of_row (v ∷ vs) (Some r) ≡ suc (level_in vs r.var.0) = level-stays v vs (Some r) lower in
     omega arith
 
 -- a variable of the rest isn't the first one
-not_first : (v : Var) (vs : List Var) (w : ℕ) → level_in vs v.0 ≡ length vs → IsIn vs w → (v.0 == w) ≡ false
+pub not_first : (v : Var) (vs : List Var) (w : ℕ) → level_in vs v.0 ≡ length vs → IsIn vs w → (v.0 == w) ≡ false
 not_first v vs w absent inside = by (v.0 == w) refl
   where
     by : (t : Bool) → (v.0 == w) ≡ t → t ≡ false
@@ -35,7 +35,7 @@ not_first v vs w absent inside = by (v.0 == w) refl
     by false e = refl
 
 -- what is ordered from a list on is ordered from its rest on
-ordered-rest : (v : Var) (vs : List Var) (rows : ℕ → Option Row) → level_in vs v.0 ≡ length vs → IsOrderedFrom (v ∷ vs) rows → IsOrderedFrom vs rows
+pub ordered-rest : (v : Var) (vs : List Var) (rows : ℕ → Option Row) → level_in vs v.0 ≡ length vs → IsOrderedFrom (v ∷ vs) rows → IsOrderedFrom vs rows
 ordered-rest v vs rows absent ordered = record { among = among'; below = below' }
   where
     inside_all : (w : ℕ) → IsIn vs w → IsIn (v ∷ vs) w
@@ -54,7 +54,7 @@ ordered-rest v vs rows absent ordered = record { among = among'; below = below' 
         omega arith
 
 -- a step past the first variable leads to a node of the rest
-among-step : (v : Var) (vs : List Var) (rows : ℕ → Option Row) (n : ℕ) (b : Bool) → IsOrderedFrom (v ∷ vs) rows → IsAmong (v ∷ vs) (rows n) n
+pub among-step : (v : Var) (vs : List Var) (rows : ℕ → Option Row) (n : ℕ) (b : Bool) → IsOrderedFrom (v ∷ vs) rows → IsAmong (v ∷ vs) (rows n) n
     → IsAmong vs (rows (step (rows n) v.0 n b)) (step (rows n) v.0 n b)
 among-step v vs rows n b ordered among = by (rows n) refl among
   where
@@ -101,6 +101,13 @@ same-steps v rows differ unique m n (Some r) (Some s) is_m is_n same = by (v == 
         let row : r ≡ s = λ j. record { var = record { 0 = var j }; low = record { 0 = low j }; high = record { 0 = high j } } in
         unique m n s (is_m ∙ ap Some row) is_n
 
+-- past a variable a number has the value that it has where the variable is given
+pub moved : (v : Var) (vs : List Var) (rows : ℕ → Option Row) → level_in vs v.0 ≡ length vs → (b : Bool) (a : ℕ → Bool) (k : ℕ)
+    → value_in vs rows a (step (rows k) v.0 k b) ≡ value_in (v ∷ vs) rows (with_value a v.0 b) k
+moved v vs rows absent b a k =
+    let here : with_value a v.0 b v.0 ≡ b = rw (eq-eqb v.0 v.0 refl) refl in
+    sym (rw here (ap (λ x. x == 1) (follow-with_value vs rows a v.0 b (step (rows k) v.0 k b) absent)))
+
 -- two nodes of the same values are the same
 same-among : (vs : List Var) (rows : ℕ → Option Row) → IsDistinct vs → IsOrderedFrom vs rows
     → ((n : ℕ) (r : Row) → rows n ≡ Some r → r.low.0 ≢ r.high.0) → ((m n : ℕ) (r : Row) → rows m ≡ Some r → rows n ≡ Some r → m ≡ n)
@@ -115,28 +122,25 @@ same-among (v ∷ vs) rows distinct ordered differ unique m n among_m among_n sa
     same-steps v.0 rows differ unique m n (rows m) (rows n) refl refl (λ b.
     same-among vs rows distinct.1 (ordered-rest v vs rows distinct.0 ordered) differ unique _ _
     (among-step v vs rows m b ordered among_m) (among-step v vs rows n b ordered among_n)
-    (λ a. moved b a m ∙ same (with_value a v.0 b) ∙ sym (moved b a n)))
+    (λ a. moved v vs rows distinct.0 b a m ∙ same (with_value a v.0 b) ∙ sym (moved v vs rows distinct.0 b a n)))
+
+-- a constant or a node of reduced rows is among those that test a variable of the order, which are ordered
+pub reduced-among : (order : List Var) (rows : ℕ → Option Row) → AreReduced order rows → (k : ℕ) → IsThere rows k → IsAmong order (rows k) k
+reduced-among order rows reduced k there = by (rows k) refl there
   where
-    moved : (b : Bool) (a : ℕ → Bool) (k : ℕ) → value_in vs rows a (step (rows k) v.0 k b) ≡ value_in (v ∷ vs) rows (with_value a v.0 b) k
-    moved b a k =
-        let here : with_value a v.0 b v.0 ≡ b = rw (eq-eqb v.0 v.0 refl) refl in
-        sym (rw here (ap (λ x. x == 1) (follow-with_value vs rows a v.0 b (step (rows k) v.0 k b) distinct.0)))
+    by : (o : Option Row) → rows k ≡ o → IsThere rows k → IsAmong order o k
+    by None e there = let some = rw e at there in grind arith
+    by (Some r) e there = reduced.tested k r e
+
+pub reduced-ordered : (order : List Var) (rows : ℕ → Option Row) → AreReduced order rows → IsOrderedFrom order rows
+reduced-ordered order rows reduced = record {
+  among = λ k r b is _. reduced-among order rows reduced (end_of r b) (reduced.ends_there k r b is);
+  below = λ k r b is _. reduced.ends_below k r b is;
+}
 
 -- two numbers of constants or nodes that have one value for every assignment are the same, whatever the order
 pub canonical : (order : List Var) (rows : ℕ → Option Row) → AreReduced order rows → (m n : ℕ) → IsThere rows m → IsThere rows n
     → ((a : ℕ → Bool) → value_in order rows a m ≡ value_in order rows a n) → m ≡ n
 canonical order rows reduced m n there_m there_n same =
-    same-among order rows reduced.distinct ordered reduced.ends_differ reduced.unique m n (among m there_m) (among n there_n) same
-  where
-    among : (k : ℕ) → IsThere rows k → IsAmong order (rows k) k
-    among k there = by (rows k) refl there
-      where
-        by : (o : Option Row) → rows k ≡ o → IsThere rows k → IsAmong order o k
-        by None e there = let some = rw e at there in grind arith
-        by (Some r) e there = reduced.tested k r e
-
-    ordered : IsOrderedFrom order rows
-    ordered = record {
-      among = λ k r b is _. among (end_of r b) (reduced.ends_there k r b is);
-      below = λ k r b is _. reduced.ends_below k r b is;
-    }
+    same-among order rows reduced.distinct (reduced-ordered order rows reduced) reduced.ends_differ reduced.unique m n
+    (reduced-among order rows reduced m there_m) (reduced-among order rows reduced n there_n) same

@@ -2,7 +2,7 @@
 use Rattle.std.proofs.Common.{◌≡◌, ℕ, true, ◌&&◌, ◌||◌, [], ◌∷◌, Some, None, refl}
 use Rattle.dd_store.specs.declared.row.Var.{Var}
 use Rattle.dd_store.specs.Table.{Table, row_with, node_count, value_of, level_of, top_of, handle_count}
-use Rattle.dd_store.specs.Size.{Function, size, level_size, truths}
+use Rattle.dd_store.specs.Size.{Function, alike, size, level_size}
 
 abbrev var : ℕ → Var
 var v = record { 0 = v }
@@ -21,11 +21,11 @@ diagram = record {
 }
 
 -- the diagram has the function's value for all eight assignments
-value : truths diagram.order (value_of diagram 4) ≡ truths diagram.order both_or
+value : alike diagram.order (λ a. value_of diagram 4 a) both_or ≡ true
 value = refl
 
 -- a node in the middle has the value of its part
-part : truths diagram.order (value_of diagram 3) ≡ truths diagram.order (λ a. a 1 || a 2)
+part : alike diagram.order (λ a. value_of diagram 3 a) (λ a. a 1 || a 2) ≡ true
 part = refl
 
 -- three nodes, one handle, and the levels

@@ -8,3 +8,11 @@ pub mod ReadLemmas
 pub mod OrderLemmas
 pub mod AddLemmas
 pub mod Computed
+pub mod SizeLemmas
+pub mod AlikeLemmas
+pub mod ReachedLemmas
+pub mod FreeLemmas
+pub mod LastLemmas
+pub mod LevelLemmas
+pub mod ShortLemmas
+pub mod LevelReachedLemmas

@@ -31,7 +31,7 @@ follow-above (w ∷ ws) rows a v b n distinct above =
 
 module _ (order : List Var) (rows : ℕ → Option Row) (reduced : AreReduced order rows) where
   -- past its own variable a node has the value of an end, whatever the variable was
-  past : (n : ℕ) (r : Row) (a : ℕ → Bool) (b : Bool) → rows n ≡ Some r
+  pub past : (n : ℕ) (r : Row) (a : ℕ → Bool) (b : Bool) → rows n ≡ Some r
       → value_in order rows (with_value a r.var.0 b) n ≡ value_in order rows a (end_of r b)
   past n r a b is =
       let given = with_value a r.var.0 b in

@@ -8,3 +8,5 @@ pub mod Changes
 pub mod Kept
 pub mod Law
 pub mod Size
+pub mod SizeLaws
+pub mod Short

@@ -1,8 +1,8 @@
 -- How many nodes functions need over an order, counted without a table (Bryant 1986): their different cofactors.
-use Rattle.std.specs.Prelude.{ℕ, suc, Bool, true, false, not, ◌&&◌, ◌||◌, if◌then◌else◌, Option, Some, None}
-use Rattle.std.specs.Prelude.{List, [], ◌∷◌, ◌++◌, length, map, filter, slice_get}
-use Rattle.std.specs.List.{list_any, list_all, flat_map}
+use Rattle.std.specs.Prelude.{ℕ, suc, Bool, true, false, not, ◌&&◌, ◌||◌, List, [], ◌∷◌, ◌++◌, filter, flat_map}
+use Rattle.std.specs.Prelude.{Option, Some, None, slice_get}
 use Rattle.std.specs.Bool.{beq}
+use Rattle.std.specs.Set.{distinct_count}
 use Prim.Native.Nat.{zero}
 use Rattle.dd_store.specs.declared.row.Var.{Var}
 use Rattle.dd_store.specs.Follow.{with_value}
@@ -26,45 +26,34 @@ cofactors_at zero order f = f ∷ []
 cofactors_at (suc i) [] f = []
 cofactors_at (suc i) (v ∷ vs) f = cofactors_at i vs (fixed f v.0 false) ++ cofactors_at i vs (fixed f v.0 true)
 
--- the values of a function for all values of the variables of the order, which tell two such functions apart
-abbrev pub truths : List Var → Function → List Bool
-truths [] f = f (λ _. false) ∷ []
-truths (v ∷ vs) f = truths vs (fixed f v.0 false) ++ truths vs (fixed f v.0 true)
+-- whether two functions have one value, whatever the values of the order's variables are
+abbrev pub alike : List Var → Function → Function → Bool
+alike [] f g = beq (f (λ _. false)) (g (λ _. false))
+alike (v ∷ vs) f g = alike vs (fixed f v.0 false) (fixed g v.0 false) && alike vs (fixed f v.0 true) (fixed g v.0 true)
 
--- whether two lists of values are the same
-abbrev pub same_truths : List Bool → List Bool → Bool
-same_truths [] [] = true
-same_truths [] (b ∷ bs) = false
-same_truths (a ∷ as') [] = false
-same_truths (a ∷ as') (b ∷ bs) = beq a b && same_truths as' bs
+-- whether a function is constant
+abbrev pub is_constant : List Var → Function → Bool
+is_constant order f = alike order f (λ _. false) || alike order f (λ _. true)
 
--- the lists of values, each once
-abbrev pub without_repetition : List (List Bool) → List (List Bool)
-without_repetition [] = []
-without_repetition (t ∷ ts) = if list_any (same_truths t) ts then without_repetition ts else t ∷ without_repetition ts
+-- what the functions of a list give by fixing the first i variables, for each i, without what is constant
+abbrev pub parts : List Var → List Function → List Function
+parts order fs = filter (λ f. not (is_constant order f)) (flat_map (cofactors order) fs)
 
--- whether the values are those of a constant
-abbrev pub is_constant : List Bool → Bool
-is_constant ts = list_all (λ b. b) ts || list_all not ts
-
--- how many different functions, without the two constants, are got from a function of the list by fixing the first i
--- variables
+-- How many different functions, without the two constants, are got from a function of the list by fixing the first i
+-- variables.
 abbrev pub size : List Var → List Function → ℕ
-size order fs =
-    length (without_repetition
-    (filter (λ t. not (is_constant t)) (flat_map (λ f. map (truths order) (cofactors order f)) fs)))
+size order fs = distinct_count (alike order) (parts order fs)
 
 -- whether a function depends on a variable
 abbrev pub depends_on : List Var → ℕ → Function → Bool
-depends_on order v f = not (same_truths (truths order (fixed f v false)) (truths order (fixed f v true)))
+depends_on order v f = not (alike order (fixed f v false) (fixed f v true))
 
 -- the functions of the list that depend on the variable, where there is one
 abbrev pub dependent : List Var → Option Var → List Function → List Function
 dependent order None fs = []
 dependent order (Some v) fs = filter (depends_on order v.0) fs
 
--- how many of them are got by fixing exactly the first i variables and depend on the next one
+-- How many different functions are got by fixing exactly the first i variables and depend on the next one.
 abbrev pub level_size : List Var → List Function → ℕ → ℕ
 level_size order fs i =
-    length (without_repetition
-    (map (truths order) (dependent order (slice_get order i) (flat_map (cofactors_at i order) fs))))
+    distinct_count (alike order) (dependent order (slice_get order i) (flat_map (cofactors_at i order) fs))

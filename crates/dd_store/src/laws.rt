@@ -1,5 +1,9 @@
 //! Laws of the definitions. The functions do nothing: what they ensure is the law.
 ghost use Rattle.dd_store.specs.Law.{ChangesCompose, ValuesTellLevels};
+ghost use Rattle.dd_store.specs.Short.{ShortIsBounded, ShortStays};
+ghost use Rattle.dd_store.specs.SizeLaws.{CofactorsAddNothing, LastVariableAddsNothing, MoreIsNotSmaller};
+ghost use Rattle.dd_store.specs.SizeLaws.{LevelsAreBounded, MoreIsNotSmallerAtLevels, SizeIsBounded};
+ghost use Rattle.dd_store.specs.SizeLaws.{ReachedIsLevelSize, ReachedIsSize};
 
 /// A node stands on a level or below it exactly where its value depends on no variable above that level.
 pub fn values_tell_levels()
@@ -9,4 +13,38 @@ pub fn values_tell_levels()
 /// What a call leaves as it is composes over several calls.
 pub fn changes_compose()
     ensures { ChangesCompose }
+{}
+
+/// More functions never need fewer nodes, nor fewer at a level.
+pub fn more_is_not_smaller()
+    ensures size { MoreIsNotSmaller }
+    ensures levels { MoreIsNotSmallerAtLevels }
+{}
+
+/// In reduced rows as many nodes are reached as the values need, also at each level.
+pub fn reached_is_size()
+    ensures size { ReachedIsSize }
+    ensures levels { ReachedIsLevelSize }
+{}
+
+/// m functions of n variables need at most m * 2^n nodes, and at most m * 2^i at level i.
+pub fn size_is_bounded()
+    ensures size { SizeIsBounded }
+    ensures levels { LevelsAreBounded }
+{}
+
+/// What a function of a list gives by fixing the first variables counts with it.
+pub fn cofactors_add_nothing()
+    ensures { CofactorsAddNothing }
+{}
+
+/// A last variable on which nothing depends adds nothing.
+pub fn last_variable_adds_nothing()
+    ensures { LastVariableAddsNothing }
+{}
+
+/// A budget that is too small stays so for more functions, and is so only below a bound.
+pub fn short_budgets()
+    ensures stays { ShortStays }
+    ensures bounded { ShortIsBounded }
 {}
