@@ -1,13 +1,13 @@
 -- A loop that reads none or more, turn by turn: what is read so far, in front of what the turns that are
 -- left read, is what all turns read.
-use Rattle.std.specs.Prelude.{◌≡◌, ℕ, zero, suc, ◌-◌, ◌+◌, ◌<◌, ◌≤◌, length, cond, true, false, List, [], ◌∷◌, ◌++◌, Ok, Err}
-use Rattle.std.proofs.Common.{refl, sym, ap, ◌∙◌, append_assoc, append-nil, arith}
+use Rattle.std.specs.Prelude.{◌≡◌, ℕ, zero, suc, ◌-◌, ◌+◌, ◌<◌, ◌≤◌, length, cond, true, false, List, [], ◌∷◌, ◌++◌, Result, Ok, Err}
+use Rattle.std.proofs.Common.{refl, sym, ap, ◌∙◌, subst, append_assoc, append-nil, arith, Bor}
 use Rattle.uvl_lexer.specs.declared.token.Token.{Token}
 use Rattle.uvl_grammar.specs.steps.Tests.{Test, begins}
 use Rattle.uvl_parser.specs.declared.reading.Stop.{Stop}
 use Rattle.uvl_parser.specs.declared.reading.Stop.TheVariants.{Stuck, OutOfMemory}
 use Rattle.uvl_grammar.specs.steps.Reading.{Read, Reader, ◌>>=◌, done, bind, choose, repeat, many, with_front}
-use Rattle.uvl_parser.specs.steps.Gives.{Fails}
+use Rattle.uvl_parser.specs.steps.Gives.{Fails, Gives, IsReader}
 
 module _ {A : Type 0} (test : Test) (p : Reader A) (front : List A) where
   -- no turn is left
@@ -92,3 +92,16 @@ pub turns_begin : {A : Type 0} (test : Test) (p : Reader A) (front : List A) (ts
     → TurnsLeft test p (with_front front (many test p ts)) front (length ts) 0 ts
 unfolding many
 turns_begin test p front ts = let all : length ts - 0 ≡ length ts = omega arith in ap (λ z. with_front front (repeat z test p ts)) all
+
+-- ---- a function that is passed in, and reads what p reads
+
+module _ {A T : Type 0} (answers : A → Bor (List Token) → Result (T × Bor (List Token)) Stop → Type 0) (p : Reader T) (reads : IsReader answers p)
+    (alloc : A) (ts : Bor (List Token)) (r : Result (T × Bor (List Token)) Stop) (answered : answers alloc ts r) where
+  told : (s : Result (T × Bor (List Token)) Stop) → r ≡ s → Gives (λ x. (x.0, x.1.now)) s (p ts.now)
+  told s e = subst (λ z. Gives (λ x. (x.0, x.1.now)) z (p ts.now)) e (reads alloc ts r answered)
+
+  pub reads_part : (a : T) (rest : Bor (List Token)) → r ≡ Ok (a, rest) → p ts.now ≡ Ok (a, rest.now)
+  reads_part a rest e = told (Ok (a, rest)) e
+
+  pub reads_none : (stop : Stop) → r ≡ Err stop → Fails stop (p ts.now)
+  reads_none stop e = told (Err stop) e

@@ -1,7 +1,7 @@
 //! The readers of what stands in braces.
 ghost use Rattle.std.specs.Prelude.{◌≡◌, Ok, Err, [], ◌∷◌, ◌++◌, OnOk};
 ghost use Rattle.uvl_grammar.specs.Braces.{attributes_of, rules_of};
-ghost use Rattle.uvl_grammar.specs.steps.Reading.{many, behind_comma, separated, with_front};
+ghost use Rattle.uvl_grammar.specs.steps.Reading.{many, behind_comma, separated};
 ghost use Rattle.uvl_parser.specs.steps.Gives.{Gives};
 ghost use Rattle.uvl_grammar.specs.steps.Tests.{is_symbol};
 ghost use Rattle.uvl_grammar.specs.steps.Expressions.{expression};
@@ -10,8 +10,9 @@ ghost use Rattle.uvl_lexer.specs.declared.token.Symbol.TheVariants.{Comma, Right
 
 use crate::braces::Kept;
 use crate::expression::expression;
+use crate::lists::separated;
 use crate::reading::Stop;
-use crate::tokens::{begins_with_symbol, begins_with_word, symbol, word};
+use crate::tokens::{begins_with, token};
 use crate::values::attribute;
 use sqlite_items::Items;
 use std::alloc::{AllocError, Global};
@@ -24,8 +25,8 @@ use uvl_lexer::{Symbol, Token, Word};
 pub(crate) fn braces(alloc: Global, tokens: &[Token]) -> Result<(Kept, &[Token]), Stop>
     ensures { Gives (λ r. ((r.0.attributes, r.0.rules), r.1.now)) result (kept (braces tokens.now)) }
 {
-    if begins_with_symbol(tokens, Symbol::LeftBrace) {
-        let (_, rest) = symbol(tokens, Symbol::LeftBrace)?;
+    if begins_with(tokens, Symbol::LeftBrace) {
+        let (_, rest) = token(tokens, Symbol::LeftBrace)?;
         closed_entries(alloc, rest)
     } else {
         Ok((nothing(alloc), tokens))
@@ -37,7 +38,7 @@ fn closed_entries(alloc: Global, tokens: &[Token]) -> Result<(Kept, &[Token]), S
     ensures { Gives (λ r. ((r.0.attributes, r.0.rules), r.1.now)) result (kept_closed (kept (separated (is_symbol RightBrace) entry tokens.now))) }
 {
     let (kept, rest) = entries(alloc, tokens)?;
-    let (_, rest) = symbol(rest, Symbol::RightBrace)?;
+    let (_, rest) = token(rest, Symbol::RightBrace)?;
     Ok((kept, rest))
 }
 
@@ -58,7 +59,7 @@ fn entries(alloc: Global, tokens: &[Token]) -> Result<(Kept, &[Token]), Stop>
     ensures { Gives (λ r. ((r.0.attributes, r.0.rules), r.1.now)) result (kept (separated (is_symbol RightBrace) entry tokens.now)) }
 {
     let mut kept = nothing(alloc);
-    if begins_with_symbol(tokens, Symbol::RightBrace) {
+    if begins_with(tokens, Symbol::RightBrace) {
         return Ok((kept, tokens));
     }
     let (first, rest) = entry(alloc, tokens)?;
@@ -78,7 +79,7 @@ fn more_entries<'a>(
 {
     let mut rest = tokens;
     for _turn in 0..tokens.len() {
-        if !begins_with_symbol(rest, Symbol::Comma) {
+        if !begins_with(rest, Symbol::Comma) {
             return Ok(rest);
         }
         let (next, behind) = next_entry(alloc, rest)?;
@@ -106,7 +107,7 @@ fn keep(kept: &mut Kept, entry: Entry) -> Result<(), AllocError>
 fn next_entry(alloc: Global, tokens: &[Token]) -> Result<(Entry, &[Token]), Stop>
     ensures { Gives (λ r. (r.0, r.1.now)) result (behind_comma entry tokens.now) }
 {
-    let (_, rest) = symbol(tokens, Symbol::Comma)?;
+    let (_, rest) = token(tokens, Symbol::Comma)?;
     entry(alloc, rest)
 }
 
@@ -115,12 +116,12 @@ fn next_entry(alloc: Global, tokens: &[Token]) -> Result<(Entry, &[Token]), Stop
 fn entry(alloc: Global, tokens: &[Token]) -> Result<(Entry, &[Token]), Stop>
     ensures { Gives (λ r. (r.0, r.1.now)) result (entry tokens.now) }
 {
-    if begins_with_word(tokens, Word::Constraint) {
-        let (_, rest) = word(tokens, Word::Constraint)?;
+    if begins_with(tokens, Word::Constraint) {
+        let (_, rest) = token(tokens, Word::Constraint)?;
         let (rule, rest) = expression(alloc, rest)?;
         Ok((Entry::Rule(rule), rest))
-    } else if begins_with_word(tokens, Word::Constraints) {
-        let (_, rest) = word(tokens, Word::Constraints)?;
+    } else if begins_with(tokens, Word::Constraints) {
+        let (_, rest) = token(tokens, Word::Constraints)?;
         let (rules, rest) = rule_list(alloc, rest)?;
         Ok((Entry::Rules(rules), rest))
     } else {
@@ -134,52 +135,15 @@ fn entry(alloc: Global, tokens: &[Token]) -> Result<(Entry, &[Token]), Stop>
 fn rule_list(alloc: Global, tokens: &[Token]) -> Result<(Items<Expr>, &[Token]), Stop>
     ensures { Gives (λ r. (r.0, r.1.now)) result (rule_list tokens.now) }
 {
-    let (_, rest) = symbol(tokens, Symbol::LeftBracket)?;
+    let (_, rest) = token(tokens, Symbol::LeftBracket)?;
     let (rules, rest) = rules(alloc, rest)?;
-    let (_, rest) = symbol(rest, Symbol::RightBracket)?;
+    let (_, rest) = token(rest, Symbol::RightBracket)?;
     Ok((rules, rest))
 }
 
 /// Reads rules with commas between them.
-#[tactic(auto, unfolding(uvl_grammar::specs::steps::Reading::separated, uvl_grammar::specs::steps::Reading::choose, uvl_grammar::specs::steps::Reading::bind, uvl_grammar::specs::steps::Reading::done))]
 fn rules(alloc: Global, tokens: &[Token]) -> Result<(Items<Expr>, &[Token]), Stop>
     ensures { Gives (λ r. (r.0, r.1.now)) result (separated (is_symbol RightBracket) expression tokens.now) }
 {
-    let mut rules = Items::new(alloc);
-    if begins_with_symbol(tokens, Symbol::RightBracket) {
-        return Ok((rules, tokens));
-    }
-    let (first, rest) = expression(alloc, tokens)?;
-    rules.push(first)?;
-    let rest = more_rules(alloc, &mut rules, rest)?;
-    Ok((rules, rest))
-}
-
-/// Reads rules behind commas, and puts them behind the others.
-fn more_rules<'a>(
-    alloc: Global,
-    rules: &mut Items<Expr>,
-    tokens: &'a [Token],
-) -> Result<&'a [Token], Stop>
-    ensures { Gives (λ rest. (rules.new, rest.now)) result (with_front rules.old (many (is_symbol Comma) (behind_comma expression) tokens.now)) }
-{
-    let mut rest = tokens;
-    for _turn in 0..tokens.len() {
-        if !begins_with_symbol(rest, Symbol::Comma) {
-            return Ok(rest);
-        }
-        let (next, behind) = next_rule(alloc, rest)?;
-        rules.push(next)?;
-        rest = behind;
-    }
-    Ok(rest)
-}
-
-/// Reads a rule behind a comma.
-#[tactic(auto, unfolding(uvl_grammar::specs::steps::Reading::behind_comma, uvl_grammar::specs::steps::Reading::bind))]
-fn next_rule(alloc: Global, tokens: &[Token]) -> Result<(Expr, &[Token]), Stop>
-    ensures { Gives (λ r. (r.0, r.1.now)) result (behind_comma expression tokens.now) }
-{
-    let (_, rest) = symbol(tokens, Symbol::Comma)?;
-    expression(alloc, rest)
+    separated(alloc, Symbol::RightBracket, expression, tokens)
 }

@@ -18,15 +18,15 @@ ghost use Rattle.uvl_parser.specs.steps.Gives.{Gives};
 ghost use Rattle.uvl_grammar.specs.steps.Expressions as spec;
 ghost use Rattle.uvl_parser.specs.steps.Precedence.{of_precedence, part_of};
 
-mod precedence;
 mod opening;
 mod parts;
+mod precedence;
 
 use crate::reading::Stop;
-use crate::tokens::{begins_with_symbol, symbol};
-use precedence::{Precedence, split_comparison, split_operator};
+use crate::tokens::{begins_with, token};
 use opening::{Opening, opening_of};
 use parts::{binary, named, negative, total};
+use precedence::{Precedence, split_comparison, split_operator};
 use sqlite_items::Boxed;
 use std::alloc::Global;
 use uvl_ast::Expr;
@@ -51,7 +51,11 @@ pub(crate) fn expression(alloc: Global, tokens: &[Token]) -> Result<(Expr, &[Tok
 /// `most` is the precedence of the last operator read here. None that binds more is looked for behind it:
 /// those were read with its right operand.
 #[cycle(expression)]
-fn grouped(alloc: Global, least: Precedence, tokens: &[Token]) -> Result<(Boxed<Expr>, &[Token]), Stop>
+fn grouped(
+    alloc: Global,
+    least: Precedence,
+    tokens: &[Token],
+) -> Result<(Boxed<Expr>, &[Token]), Stop>
     ensures reads { Gives (λ r. (r.0, r.1.now)) result (of_precedence least tokens.now) }
     ensures shorter { IfOk result (λ r. length r.1.now < length tokens.now) }
 {
@@ -72,7 +76,11 @@ fn grouped(alloc: Global, least: Precedence, tokens: &[Token]) -> Result<(Boxed<
 /// Reads what stands between the operators of a precedence.
 #[cycle(expression)]
 #[tactic(auto, unfolding(crate::specs::steps::Precedence::part_of, crate::specs::steps::Precedence::of_precedence, uvl_grammar::specs::steps::Expressions::operand, uvl_grammar::specs::steps::Expressions::primary, uvl_grammar::specs::steps::Reading::closed))]
-fn part(alloc: Global, precedence: Precedence, tokens: &[Token]) -> Result<(Boxed<Expr>, &[Token]), Stop>
+fn part(
+    alloc: Global,
+    precedence: Precedence,
+    tokens: &[Token],
+) -> Result<(Boxed<Expr>, &[Token]), Stop>
     ensures reads { Gives (λ r. (r.0, r.1.now)) result (part_of precedence tokens.now) }
     ensures shorter { IfOk result (λ r. length r.1.now < length tokens.now) }
 {
@@ -92,10 +100,10 @@ fn operand(alloc: Global, tokens: &[Token]) -> Result<(Boxed<Expr>, &[Token]), S
     ensures reads { Gives (λ r. (r.0, r.1.now)) result (spec.operand tokens.now) }
     ensures shorter { IfOk result (λ r. length r.1.now < length tokens.now) }
 {
-    if !begins_with_symbol(tokens, Symbol::Bang) {
+    if !begins_with(tokens, Symbol::Bang) {
         return comparison(alloc, tokens);
     }
-    let (place, rest) = symbol(tokens, Symbol::Bang)?;
+    let (place, rest) = token(tokens, Symbol::Bang)?;
     let (inner, rest) = operand(alloc, rest)?;
     Ok((Boxed::new(alloc, Expr::Not(inner, place))?, rest))
 }
@@ -144,6 +152,6 @@ fn parenthesized(alloc: Global, tokens: &[Token]) -> Result<(Boxed<Expr>, &[Toke
     ensures shorter { IfOk result (λ r. length r.1.now < length tokens.now) }
 {
     let (inner, rest) = grouped(alloc, Precedence::Iff, tokens)?;
-    let (_, rest) = symbol(rest, Symbol::RightParen)?;
+    let (_, rest) = token(rest, Symbol::RightParen)?;
     Ok((inner, rest))
 }

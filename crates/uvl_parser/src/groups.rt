@@ -7,7 +7,7 @@ ghost use Rattle.uvl_parser.specs.steps.Gives.{Gives};
 ghost use Rattle.uvl_grammar.specs.steps.Groups.{kind_of, upper, range_from, range, group_front};
 
 use crate::reading::Stop;
-use crate::tokens::{begins_with_symbol, symbol};
+use crate::tokens::{begins_with, token};
 use uvl_ast::GroupKind;
 use uvl_base::{Fixed, Place};
 use uvl_lexer::{Symbol, Token, TokenKind, Word};
@@ -20,7 +20,7 @@ pub(crate) type GroupFront = (GroupKind, Place);
 pub(crate) fn group_front(tokens: &[Token]) -> Result<(GroupFront, &[Token]), Stop>
     ensures { Gives (λ r. (r.0, r.1.now)) result (group_front tokens.now) }
 {
-    if begins_with_symbol(tokens, Symbol::LeftBracket) {
+    if begins_with(tokens, Symbol::LeftBracket) {
         range(tokens)
     } else {
         kind_word(tokens)
@@ -59,10 +59,10 @@ fn kind_word(tokens: &[Token]) -> Result<(GroupFront, &[Token]), Stop>
 fn range(tokens: &[Token]) -> Result<(GroupFront, &[Token]), Stop>
     ensures { Gives (λ r. (r.0, r.1.now)) result (range tokens.now) }
 {
-    let (place, rest) = symbol(tokens, Symbol::LeftBracket)?;
+    let (place, rest) = token(tokens, Symbol::LeftBracket)?;
     let (lo, _, rest) = whole(rest)?;
     let (kind, rest) = range_from(lo, rest)?;
-    let (_, rest) = symbol(rest, Symbol::RightBracket)?;
+    let (_, rest) = token(rest, Symbol::RightBracket)?;
     Ok(((kind, place), rest))
 }
 
@@ -71,8 +71,8 @@ fn range(tokens: &[Token]) -> Result<(GroupFront, &[Token]), Stop>
 fn range_from(lo: u64, tokens: &[Token]) -> Result<(GroupKind, &[Token]), Stop>
     ensures { Gives (λ r. (r.0, r.1.now)) result (range_from lo tokens.now) }
 {
-    if begins_with_symbol(tokens, Symbol::Dots) {
-        let (_, rest) = symbol(tokens, Symbol::Dots)?;
+    if begins_with(tokens, Symbol::Dots) {
+        let (_, rest) = token(tokens, Symbol::Dots)?;
         upper(lo, rest)
     } else {
         Ok((GroupKind::Range { lo, hi: Some(lo) }, tokens))
@@ -84,8 +84,8 @@ fn range_from(lo: u64, tokens: &[Token]) -> Result<(GroupKind, &[Token]), Stop>
 fn upper(lo: u64, tokens: &[Token]) -> Result<(GroupKind, &[Token]), Stop>
     ensures { Gives (λ r. (r.0, r.1.now)) result (upper lo tokens.now) }
 {
-    if begins_with_symbol(tokens, Symbol::Star) {
-        let (_, rest) = symbol(tokens, Symbol::Star)?;
+    if begins_with(tokens, Symbol::Star) {
+        let (_, rest) = token(tokens, Symbol::Star)?;
         Ok((GroupKind::Range { lo, hi: None }, rest))
     } else {
         let (hi, _, rest) = whole(tokens)?;

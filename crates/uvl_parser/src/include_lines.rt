@@ -6,12 +6,15 @@ ghost use Rattle.uvl_grammar.specs.steps.Tests.{begins};
 ghost use Rattle.uvl_grammar.specs.Sections.{level_part, written_name};
 ghost use Rattle.uvl_grammar.specs.steps.Reading.{many};
 ghost use Rattle.uvl_parser.specs.steps.Gives.{Gives};
-ghost use Rattle.uvl_grammar.specs.steps.Sections.{level, level_token, is_level_part};
+ghost use Rattle.uvl_base.specs.declared.word.Word.TheVariants.{Include};
+ghost use Rattle.uvl_grammar.specs.steps.Sections.{level, level_token, is_level_part, section};
 ghost use Rattle.uvl_parser.specs.steps.LanguageLevels.{text_onto, texts_onto, line_text, level_text, Pushes};
 
-use crate::lines::SectionLine;
+use crate::layout::Layout;
 use crate::reading::Stop;
-use crate::tokens::newline;
+use crate::sections::section;
+use crate::tokens::token;
+use sqlite_items::Items;
 use std::alloc::{AllocError, Global};
 use uvl_base::Text;
 use uvl_lexer::{Symbol, Token, TokenKind, Word};
@@ -152,15 +155,20 @@ fn level_text(alloc: Global, tokens: &[Token]) -> Result<(Text, &[Token]), Stop>
     ensures { Gives (λ r. (r.0, r.1.now)) result (level_text tokens.now) }
 {
     let (text, rest) = line_text(alloc, tokens)?;
-    let (_, rest) = newline(rest)?;
+    let (_, rest) = token(rest, Layout::Newline)?;
     Ok((Text::from(text), rest))
 }
 
-/// A line of `include`: `level Newline`.
-impl SectionLine for Text {
-    ghost reader = { level };
+/// Reads the section of language levels, where it stands.
+pub(crate) fn levels(alloc: Global, tokens: &[Token]) -> Result<(Items<Text>, &[Token]), Stop>
+    ensures { Gives (λ r. (r.0, r.1.now)) result (section Include level tokens.now) }
+{
+    section(alloc, Word::Include, level, tokens)
+}
 
-    fn line(alloc: Global, tokens: &[Token]) -> Result<(Text, &[Token]), Stop> {
-        level_text(alloc, tokens)
-    }
+/// Reads a line of `include`: `level Newline`.
+fn level(alloc: Global, tokens: &[Token]) -> Result<(Text, &[Token]), Stop>
+    ensures { Gives (λ r. (r.0, r.1.now)) result (level tokens.now) }
+{
+    level_text(alloc, tokens)
 }

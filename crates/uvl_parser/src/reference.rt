@@ -7,7 +7,7 @@ ghost use Rattle.uvl_grammar.specs.steps.Refs.{dot_name, reference};
 ghost use Rattle.uvl_lexer.specs.declared.token.Symbol.TheVariants.{Dot};
 
 use crate::reading::Stop;
-use crate::tokens::{begins_with_symbol, name, symbol};
+use crate::tokens::{begins_with, name, token};
 use std::alloc::Global;
 use uvl_ast::{Names, Ref};
 use uvl_base::Name;
@@ -31,7 +31,7 @@ fn dot_names<'a>(parts: &mut Names, tokens: &'a [Token]) -> Result<&'a [Token], 
 {
     let mut rest = tokens;
     for _turn in 0..tokens.len() {
-        if !begins_with_symbol(rest, Symbol::Dot) {
+        if !begins_with(rest, Symbol::Dot) {
             return Ok(rest);
         }
         let (name, behind) = dot_name(rest)?;
@@ -46,7 +46,7 @@ fn dot_names<'a>(parts: &mut Names, tokens: &'a [Token]) -> Result<&'a [Token], 
 fn dot_name(tokens: &[Token]) -> Result<(&Name, &[Token]), Stop>
     ensures { Gives (λ r. (r.0.now, r.1.now)) result (dot_name tokens.now) }
 {
-    let (_, rest) = symbol(tokens, Symbol::Dot)?;
+    let (_, rest) = token(tokens, Symbol::Dot)?;
     let (name, _, rest) = name(rest)?;
     Ok((name, rest))
 }

@@ -2,15 +2,16 @@
 //! `plain = name value?`, `value = "true" | "false" | "-"? number | text`, attributes in braces or
 //! values in brackets.
 ghost use Rattle.std.specs.Prelude.{◌≡◌, Ok, Err, Some, None, IfOk, option_map};
-ghost use Rattle.uvl_grammar.specs.steps.Reading.{many, behind_comma, separated, with_front, closed, accept, done};
+ghost use Rattle.uvl_grammar.specs.steps.Reading.{separated, closed, accept, done};
 ghost use Rattle.uvl_parser.specs.steps.Gives.{Gives};
 ghost use Rattle.uvl_grammar.specs.steps.Tests.{is_symbol, begins_value, begins};
 ghost use Rattle.uvl_grammar.specs.steps.Values.{value_of, simple_value, value_at, attribute_at, attribute, list_with, vector_with};
-ghost use Rattle.uvl_lexer.specs.declared.token.Symbol.TheVariants.{Comma, RightBrace, RightBracket};
+ghost use Rattle.uvl_lexer.specs.declared.token.Symbol.TheVariants.{RightBrace, RightBracket};
 
+use crate::lists::separated;
 use crate::number::{negated, number};
 use crate::reading::Stop;
-use crate::tokens::{begins_with_symbol, name, symbol};
+use crate::tokens::{begins_with, name, token};
 use sqlite_items::Items;
 use std::alloc::{AllocError, Global};
 use uvl_ast::{AttrValue, Attribute};
@@ -65,8 +66,8 @@ fn single_value(tokens: &[Token]) -> Result<(AttrValue, Place, &[Token]), Stop>
 fn simple_value(tokens: &[Token]) -> Result<(AttrValue, &[Token]), Stop>
     ensures { Gives (λ r. (r.0, r.1.now)) result (simple_value tokens.now) }
 {
-    if begins_with_symbol(tokens, Symbol::Minus) {
-        let (_, rest) = symbol(tokens, Symbol::Minus)?;
+    if begins_with(tokens, Symbol::Minus) {
+        let (_, rest) = token(tokens, Symbol::Minus)?;
         let (value, _, rest) = number(rest)?;
         Ok((AttrValue::Number(negated(*value)), rest))
     } else {
@@ -112,11 +113,11 @@ fn value_at(alloc: Global, tokens: &[Token], depth: usize) -> Result<(AttrValue,
     if depth == 0 {
         return Err(Stop::Stuck { left: tokens.len() });
     }
-    if begins_with_symbol(tokens, Symbol::LeftBrace) {
-        let (_, rest) = symbol(tokens, Symbol::LeftBrace)?;
+    if begins_with(tokens, Symbol::LeftBrace) {
+        let (_, rest) = token(tokens, Symbol::LeftBrace)?;
         list(alloc, rest, depth - 1)
-    } else if begins_with_symbol(tokens, Symbol::LeftBracket) {
-        let (_, rest) = symbol(tokens, Symbol::LeftBracket)?;
+    } else if begins_with(tokens, Symbol::LeftBracket) {
+        let (_, rest) = token(tokens, Symbol::LeftBracket)?;
         vector(alloc, rest, depth - 1)
     } else {
         simple_value(tokens)
@@ -130,13 +131,12 @@ fn list(alloc: Global, tokens: &[Token], depth: usize) -> Result<(AttrValue, &[T
     ensures { Gives (λ r. (r.0, r.1.now)) result (list_with (value_at depth) tokens.now) }
 {
     let (attributes, rest) = attributes(alloc, tokens, depth)?;
-    let (_, rest) = symbol(rest, Symbol::RightBrace)?;
+    let (_, rest) = token(rest, Symbol::RightBrace)?;
     Ok((AttrValue::List(attributes), rest))
 }
 
 /// Reads attributes with commas between them.
 #[cycle(values)]
-#[tactic(auto, unfolding(uvl_grammar::specs::steps::Reading::separated, uvl_grammar::specs::steps::Reading::choose, uvl_grammar::specs::steps::Reading::bind, uvl_grammar::specs::steps::Reading::done))]
 fn attributes(
     alloc: Global,
     tokens: &[Token],
@@ -144,50 +144,14 @@ fn attributes(
 ) -> Result<(Items<Attribute>, &[Token]), Stop>
     ensures { Gives (λ r. (r.0, r.1.now)) result (separated (is_symbol RightBrace) (attribute_at depth) tokens.now) }
 {
-    let mut attributes = Items::new(alloc);
-    if begins_with_symbol(tokens, Symbol::RightBrace) {
-        return Ok((attributes, tokens));
-    }
-    let (first, rest) = attribute_at(alloc, tokens, depth)?;
-    attributes.push(first)?;
-    let rest = more_attributes(alloc, &mut attributes, rest, depth)?;
-    Ok((attributes, rest))
-}
-
-/// Reads attributes behind commas, and puts them behind the others.
-#[cycle(values)]
-fn more_attributes<'a>(
-    alloc: Global,
-    attributes: &mut Items<Attribute>,
-    tokens: &'a [Token],
-    depth: usize,
-) -> Result<&'a [Token], Stop>
-    ensures { Gives (λ rest. (attributes.new, rest.now)) result (with_front attributes.old (many (is_symbol Comma) (behind_comma (attribute_at depth)) tokens.now)) }
-{
-    let mut rest = tokens;
-    for _turn in 0..tokens.len() {
-        if !begins_with_symbol(rest, Symbol::Comma) {
-            return Ok(rest);
-        }
-        let (next, behind) = next_attribute(alloc, rest, depth)?;
-        attributes.push(next)?;
-        rest = behind;
-    }
-    Ok(rest)
-}
-
-/// Reads an attribute behind a comma.
-#[cycle(values)]
-#[tactic(auto, unfolding(uvl_grammar::specs::steps::Reading::behind_comma, uvl_grammar::specs::steps::Reading::bind))]
-fn next_attribute(
-    alloc: Global,
-    tokens: &[Token],
-    depth: usize,
-) -> Result<(Attribute, &[Token]), Stop>
-    ensures { Gives (λ r. (r.0, r.1.now)) result (behind_comma (attribute_at depth) tokens.now) }
-{
-    let (_, rest) = symbol(tokens, Symbol::Comma)?;
-    attribute_at(alloc, rest, depth)
+    separated(
+        alloc,
+        Symbol::RightBrace,
+        |alloc: Global, rest: &[Token]|
+            ensures { Gives (λ r. (r.0, r.1.now)) result (attribute_at depth rest.now) }
+        { attribute_at(alloc, rest, depth) },
+        tokens,
+    )
 }
 
 /// Reads values with commas between them, and the bracket that closes them.
@@ -197,13 +161,12 @@ fn vector(alloc: Global, tokens: &[Token], depth: usize) -> Result<(AttrValue, &
     ensures { Gives (λ r. (r.0, r.1.now)) result (vector_with (value_at depth) tokens.now) }
 {
     let (values, rest) = values(alloc, tokens, depth)?;
-    let (_, rest) = symbol(rest, Symbol::RightBracket)?;
+    let (_, rest) = token(rest, Symbol::RightBracket)?;
     Ok((AttrValue::Vector(values), rest))
 }
 
 /// Reads values with commas between them.
 #[cycle(values)]
-#[tactic(auto, unfolding(uvl_grammar::specs::steps::Reading::separated, uvl_grammar::specs::steps::Reading::choose, uvl_grammar::specs::steps::Reading::bind, uvl_grammar::specs::steps::Reading::done))]
 fn values(
     alloc: Global,
     tokens: &[Token],
@@ -211,44 +174,12 @@ fn values(
 ) -> Result<(Items<AttrValue>, &[Token]), Stop>
     ensures { Gives (λ r. (r.0, r.1.now)) result (separated (is_symbol RightBracket) (value_at depth) tokens.now) }
 {
-    let mut values = Items::new(alloc);
-    if begins_with_symbol(tokens, Symbol::RightBracket) {
-        return Ok((values, tokens));
-    }
-    let (first, rest) = value_at(alloc, tokens, depth)?;
-    values.push(first)?;
-    let rest = more_values(alloc, &mut values, rest, depth)?;
-    Ok((values, rest))
-}
-
-/// Reads values behind commas, and puts them behind the others.
-#[cycle(values)]
-fn more_values<'a>(
-    alloc: Global,
-    values: &mut Items<AttrValue>,
-    tokens: &'a [Token],
-    depth: usize,
-) -> Result<&'a [Token], Stop>
-    ensures { Gives (λ rest. (values.new, rest.now)) result (with_front values.old (many (is_symbol Comma) (behind_comma (value_at depth)) tokens.now)) }
-{
-    let mut rest = tokens;
-    for _turn in 0..tokens.len() {
-        if !begins_with_symbol(rest, Symbol::Comma) {
-            return Ok(rest);
-        }
-        let (next, behind) = next_value(alloc, rest, depth)?;
-        values.push(next)?;
-        rest = behind;
-    }
-    Ok(rest)
-}
-
-/// Reads a value behind a comma.
-#[cycle(values)]
-#[tactic(auto, unfolding(uvl_grammar::specs::steps::Reading::behind_comma, uvl_grammar::specs::steps::Reading::bind))]
-fn next_value(alloc: Global, tokens: &[Token], depth: usize) -> Result<(AttrValue, &[Token]), Stop>
-    ensures { Gives (λ r. (r.0, r.1.now)) result (behind_comma (value_at depth) tokens.now) }
-{
-    let (_, rest) = symbol(tokens, Symbol::Comma)?;
-    value_at(alloc, rest, depth)
+    separated(
+        alloc,
+        Symbol::RightBracket,
+        |alloc: Global, rest: &[Token]|
+            ensures { Gives (λ r. (r.0, r.1.now)) result (value_at depth rest.now) }
+        { value_at(alloc, rest, depth) },
+        tokens,
+    )
 }

@@ -1,7 +1,8 @@
 -- What a function of the parser answers, against what reading gives.
 use Rattle.std.specs.Prelude.{◌≡◌, List, Result, Ok, Err}
+use Rattle.std.proofs.Common.{Bor}
 use Rattle.uvl_lexer.specs.declared.token.Token.{Token}
-use Rattle.uvl_grammar.specs.steps.Reading.{Read}
+use Rattle.uvl_grammar.specs.steps.Reading.{Read, Reader}
 use Rattle.uvl_parser.specs.declared.reading.Stop.{Stop}
 use Rattle.uvl_parser.specs.declared.reading.Stop.TheVariants.{Stuck, OutOfMemory}
 
@@ -13,3 +14,8 @@ Fails OutOfMemory read = Unit {0}
 abbrev pub Gives : {X Y : Type 0} → (X → Y × List Token) → Result X Stop → Read Y → Type 0
 Gives view (Ok x) read = read ≡ Ok (view x)
 Gives view (Err stop) read = Fails stop read
+
+-- whatever a function that is passed in answers, is what a reader gives
+abbrev pub IsReader : {A T : Type 0} → (A → Bor (List Token) → Result (T × Bor (List Token)) Stop → Type 0) → Reader T → Type 0
+IsReader {A} {T} answers p = (alloc : A) (ts : Bor (List Token)) (r : Result (T × Bor (List Token)) Stop)
+    → answers alloc ts r → Gives (λ x. (x.0, x.1.now)) r (p ts.now)

@@ -7,7 +7,7 @@ ghost use Rattle.uvl_grammar.specs.steps.Expressions.{negative, total, named};
 use crate::number::{negated, number};
 use crate::reading::Stop;
 use crate::reference::reference;
-use crate::tokens::{name, symbol};
+use crate::tokens::{name, token};
 use sqlite_items::Boxed;
 use std::alloc::{AllocError, Global};
 use uvl_ast::{BinOp, Expr};
@@ -39,9 +39,9 @@ pub(crate) fn total(
 ) -> Result<(Boxed<Expr>, &[Token]), Stop>
     ensures { Gives (λ r. (r.0, r.1.now)) result (total word tokens.now) }
 {
-    let (_, rest) = symbol(tokens, Symbol::LeftParen)?;
+    let (_, rest) = token(tokens, Symbol::LeftParen)?;
     let (key, _, rest) = name(rest)?;
-    let (_, rest) = symbol(rest, Symbol::RightParen)?;
+    let (_, rest) = token(rest, Symbol::RightParen)?;
     Ok((Boxed::new(alloc, Expr::Sum(key.clone()?, word))?, rest))
 }
 

@@ -75,14 +75,14 @@ grouped-returns-clause-reads t c = precedence_over _ _ _ _ _ _ _ c.loop-turn.inv
 
 -- ---- operand
 
-pub operand-returns-then-not-begins_with_symbol-clause-reads : goal.operand-returns-then-not-begins_with_symbol-clause-reads
-operand-returns-then-not-begins_with_symbol-clause-reads t c =
-    rw (operand_plain _ (sym c.if-not-begins_with_symbol.ensures)) c.comparison.ensures.reads
+pub operand-returns-then-not-begins_with-clause-reads : goal.operand-returns-then-not-begins_with-clause-reads
+operand-returns-then-not-begins_with-clause-reads t c =
+    rw (operand_plain _ (sym c.if-not-begins_with.ensures)) c.comparison.ensures.reads
 
 pub operand-returns-in_err-place-clause-reads : goal.operand-returns-in_err-place-clause-reads
 operand-returns-in_err-place-clause-reads t c =
     let p = err_from_is_err_and c.from_residual.result c.from_residual.ensures.1 in
-    rw (p.1, p.2) (fails_on _ _ _ c.in_err-place.ensures (λ left stops. operand_fails _ left (sym c.if-not-begins_with_symbol.ensures) stops))
+    rw (p.1, p.2) (fails_on _ _ _ c.in_err-place.ensures (λ left stops. operand_fails _ left (sym c.if-not-begins_with.ensures) stops))
 
 pub operand-operand-requires : goal.operand-operand-requires
 operand-operand-requires t c =
@@ -93,11 +93,11 @@ pub operand-returns-in_err-inner-clause-reads : goal.operand-returns-in_err-inne
 operand-returns-in_err-inner-clause-reads t c =
     let p = err_from_is_err_and c.from_residual-in_err-inner.result c.from_residual-in_err-inner.ensures.1 in
     rw (p.1, p.2) (fails_on _ _ _ c.in_err-inner.ensures.reads (λ left stops.
-    operand_stops _ _ _ left (sym c.if-not-begins_with_symbol.ensures) c.in_ok-place.ensures stops))
+    operand_stops _ _ _ left (sym c.if-not-begins_with.ensures) c.in_ok-place.ensures stops))
 
 pub operand-returns-clause-reads : goal.operand-returns-clause-reads
 operand-returns-clause-reads t c =
-    operand_reads _ _ _ _ _ (sym c.if-not-begins_with_symbol.ensures) c.in_ok-place.ensures c.in_ok-inner.ensures.reads _ c.in_ok-new.ensures
+    operand_reads _ _ _ _ _ (sym c.if-not-begins_with.ensures) c.in_ok-place.ensures c.in_ok-inner.ensures.reads _ c.in_ok-new.ensures
 
 pub operand-returns-clause-shorter : goal.operand-returns-clause-shorter
 operand-returns-clause-shorter t c =
