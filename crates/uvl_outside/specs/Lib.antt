@@ -4,9 +4,9 @@ pub mod Files
 pub mod Source
 pub mod Sink
 pub mod SureFiles
-pub mod Absence
 pub mod Reading
 pub mod Plan
 pub mod MemFiles
 pub mod MemSource
 pub mod MemSink
+pub mod steps

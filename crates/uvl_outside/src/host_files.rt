@@ -1,7 +1,7 @@
 //! The files of the host.
 ghost use Rattle.std.specs.Prelude.{◌≡◌, None, [], Option};
 ghost use Rattle.std.specs.IoError.{error_kind};
-ghost use Rattle.uvl_outside.specs.Absence.{is_absence};
+ghost use Rattle.uvl_outside.specs.steps.Absence.{is_absence};
 ghost use Rattle.uvl_outside.specs.Files.{Fetches};
 
 use crate::files::{FetchFault, Fetched, Files};

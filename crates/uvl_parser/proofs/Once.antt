@@ -13,7 +13,6 @@ use Rattle.uvl_lexer.specs.TokenList.{IsTokenList}
 use Rattle.uvl_ast.specs.declared.file.File.{File}
 use Rattle.uvl_profile.specs.declared.candidate.Candidate.{Candidate}
 use Rattle.uvl_profile.specs.declared.candidate.Met.{Met}
-use Rattle.uvl_grammar.specs.File.{Spells}
 use Rattle.uvl_faults.specs.Named.{Typed, Cardinal, Averaged, Unsupported, Nested, Large, Deep, Named, By_tokens, Where_alive, NoneNamed, LowestNamed, IsFirstNamed}
 use Rattle.uvl_profile.specs.First.{in_front}
 use Rattle.uvl_profile.specs.Met.{met_of}

@@ -3,11 +3,9 @@ use Rattle.std.specs.Prelude.{◌≡◌, ℕ, suc, ◌+◌, ◌-◌, ◌≤◌, 
 use Rattle.std.specs.Option.{unwrap_or}
 use Rattle.std.proofs.Common.{refl, sym, ap, subst, ◌∙◌, inl, inr, arith, append_assoc, append-nil, length-append}
 use Rattle.std.proofs.lemmas.List.{take-append-drop, take-append-le, length-take}
-use Rattle.std.proofs.Math.Seq.{take-append-add}
 use Rattle.uvl_base.specs.declared.fault.FaultKind.{FaultKind}
 use Rattle.uvl_base.specs.declared.fault.FaultKind.TheVariants.{Syntax}
 use Rattle.uvl_lexer.specs.declared.token.Token.{Token}
-use Rattle.uvl_lexer.specs.declared.token.TokenKind.TheVariants as token
 use Rattle.uvl_lexer.specs.TokenList.{IsTokenList}
 use Rattle.uvl_ast.specs.declared.file.File.{File}
 use Rattle.uvl_profile.specs.declared.candidate.Candidate.{Candidate}
@@ -15,7 +13,6 @@ use Rattle.uvl_grammar.specs.File.{Spells}
 use Rattle.uvl_grammar.specs.Dead.{Dead}
 use Rattle.uvl_faults.specs.Named.{NoneNamed, LowestNamed, IsFirstNamed}
 use Rattle.uvl_parser.specs.Parsing.{IsParsedAs, IsFaultAt, IsRefusedAt}
-use Rattle.uvl_grammar.specs.steps.Reading.{Read}
 use Rattle.uvl_grammar.specs.steps.File.{file}
 use Rattle.uvl_grammar.proofs.WholeFiles.{Stops, Reads, outcome, stopped_dead, stopped_alive, nothing_behind, never_out, same_front, same_dead, dead_same}
 use Rattle.uvl_faults.proofs.Shallow.{spelled_alive}

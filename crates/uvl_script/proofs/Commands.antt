@@ -1,5 +1,5 @@
 -- The command that a line is answered with.
-use Rattle.std.proofs.Common.{◌≡◌, ◌⊎◌, ℕ, true, false, List, [], ◌∷◌, Option, Some, None, Result, Ok, Err, IfSome, IsSome, IfOk, IfErr, IsErrAnd, rules, refl, sym, ap, ◌∙◌, inl, inr, subst, length, ◌<◌, ◌≤◌, nat_lt, arith}
+use Rattle.std.proofs.Common.{◌≡◌, ◌⊎◌, ℕ, false, List, [], ◌∷◌, Option, Some, None, Result, Ok, Err, IfSome, IsSome, IfOk, IfErr, IsErrAnd, rules, refl, sym, ap, ◌∙◌, inl, inr, subst, length, ◌≤◌, nat_lt, arith}
 use Rattle.std.specs.Prelude.{encode_utf8_all}
 use Rattle.std.proofs.lemmas.Bool.{cond-false}
 use Rattle.std.proofs.lemmas.Bool.Decides.{nat_tests}

@@ -4,7 +4,11 @@ use Rattle.std.specs.List.{list_all}
 use Rattle.std.proofs.lemmas.Bool.{cases_Bool, and_parts, and_from, cond-true, cond-false, false≢true}
 use Rattle.uvl_base.specs.Name.{is_name}
 use Rattle.uvl_script.specs.Lines.{is_silent}
-use Rattle.uvl_script.specs.Words.{is_separator, is_solid, is_unquote, ends_word, outside, in_word, in_quotes, behind_quotes, onto, onto_first, cut, if_names}
+use Rattle.uvl_script.specs.Words.{is_separator, is_solid, ends_word, outside, in_word, in_quotes, behind_quotes, onto, onto_first, cut, if_names}
+
+-- a character within quotes
+abbrev pub is_unquote : ℕ → Bool
+is_unquote c = not (c == 34)
 
 pub not_true : (b : Bool) → not b ≡ true → b ≡ false
 not_true true h = sym h

@@ -4,8 +4,8 @@ use Rattle.std.specs.List.{list_all}
 use Rattle.std.proofs.lemmas.Bool.{cases_Bool, and_parts, and_from, cond-true, cond-false, false≢true, eqb-true}
 use Rattle.std.proofs.lemmas.Bool.Decides.{nat_tests}
 use Rattle.uvl_base.specs.Name.{is_name, may_stand_in_name}
-use Rattle.uvl_script.specs.Words.{is_separator, is_solid, is_unquote, ends_word, IsMadeOf, nothing, gap, plain, quoted, Place, outside, in_word, in_quotes, behind_quotes, onto, onto_first, cut, if_names, words_of}
-use Rattle.uvl_script.proofs.Cutting.{not_true, cut-plain, cut-in_quotes, cut-behind-end, if_names-onto}
+use Rattle.uvl_script.specs.Words.{is_separator, is_solid, ends_word, IsMadeOf, nothing, gap, plain, quoted, Place, outside, in_word, in_quotes, behind_quotes, onto, onto_first, cut, if_names, words_of}
+use Rattle.uvl_script.proofs.Cutting.{is_unquote, not_true, cut-plain, cut-in_quotes, cut-behind-end, if_names-onto}
 
 -- ---- what is made of words is cut into them
 

@@ -10,9 +10,9 @@ use Rattle.std.proofs.lemmas.Str.{encodes-chars, chars-append, chars-nil, chars_
 use Rattle.std.proofs.lemmas.Str.Ascii.{IsAscii-nil, IsAscii-cons}
 use Rattle.uvl_base.specs.Name.{is_name}
 use Rattle.uvl_script.specs.Lines.{is_silent}
-use Rattle.uvl_script.specs.Words.{is_separator, is_solid, is_unquote, ends_word, outside, in_quotes, behind_quotes, onto, cut, if_names, words_of}
+use Rattle.uvl_script.specs.Words.{is_separator, is_solid, ends_word, outside, in_quotes, behind_quotes, onto, cut, if_names, words_of}
 use Rattle.uvl_script.proofs.Characters.{all_chars, chars-ascii, chars-none, chars-wide, WideFirst, cut_at_ascii}
-use Rattle.uvl_script.proofs.Cutting.{not_true, cut-gap, is_silent-gap, cut-plain, cut-in_quotes, cut-behind-end, cut-behind-stuck, cut-unclosed, if_names-onto, if_names-spoiled}
+use Rattle.uvl_script.proofs.Cutting.{is_unquote, not_true, cut-gap, is_silent-gap, cut-plain, cut-in_quotes, cut-behind-end, cut-behind-stuck, cut-unclosed, if_names-onto, if_names-spoiled}
 
 -- ---- what characters do that aren't ASCII
 

@@ -1,5 +1,7 @@
 -- The commands of a script.
-use Rattle.std.specs.Prelude.{ℕ, List, [], ◌∷◌, if◌then◌else◌, codes, encode_utf8_all, Option, Some, None, Result, Ok, Err}
+use Rattle.std.specs.Prelude.{ℕ, List, [], ◌∷◌, codes, encode_utf8_all, Option, Some, None, Result, Ok, Err}
+use Rattle.std.specs.List.{find}
+use Rattle.std.specs.Option.{option_map}
 use Rattle.std.specs.Str.{bytes_eq}
 use Rattle.uvl_script.specs.declared.command.Command.{Command}
 use Rattle.uvl_script.specs.declared.command.Command.TheVariants.{Valid, Void}
@@ -8,12 +10,16 @@ use Rattle.uvl_script.specs.declared.command.CommandName.TheVariants as called
 use Rattle.uvl_script.specs.declared.fault.LineFault.{LineFault}
 use Rattle.uvl_script.specs.declared.fault.LineFault.TheVariants.{UnknownCommand, WrongArity}
 
+-- the commands, each with its name
+abbrev pub commands : List (List ℕ × CommandName)
+commands =
+    (codes "valid", called.Valid)
+    ∷ (codes "void", called.Void)
+    ∷ []
+
 -- the command that some bytes name, if there is one
 abbrev pub command_named : List ℕ → Option CommandName
-command_named bytes =
-    if bytes_eq bytes (codes "valid") then Some called.Valid
-    else if bytes_eq bytes (codes "void") then Some called.Void
-    else None
+command_named bytes = option_map (λ command. command.1) (find (λ command. bytes_eq bytes command.0) commands)
 
 -- a command that takes no words
 abbrev pub without_words : Command → List (List ℕ) → Result Command LineFault

@@ -11,10 +11,6 @@ is_separator c = c == 32 || c == 9
 abbrev pub is_solid : ℕ → Bool
 is_solid c = not (is_separator c)
 
--- a character within quotes
-abbrev pub is_unquote : ℕ → Bool
-is_unquote c = not (c == 34)
-
 -- a word may end in front of a separator and at the end of the line
 abbrev pub ends_word : List ℕ → Bool
 ends_word [] = true

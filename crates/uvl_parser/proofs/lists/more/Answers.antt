@@ -1,4 +1,4 @@
-use Rattle.std.proofs.Common.{sym, arith, rules}
+use Rattle.std.proofs.Common.{sym, arith}
 use Rattle.std.proofs.lemmas.Result.{err_from_is_err_and}
 use Rattle.uvl_parser.proofs.Turns.{turns_begin, turn_taken, turn_failed, turn_ended, turns_over, fails_on, reads_part, reads_none}
 use Rattle.uvl_parser.proofs.lists.more.Goals as goal

@@ -1,5 +1,5 @@
 -- A line of words has no fault of its words.
-use Rattle.std.proofs.Common.{List, ℕ, [], Ok, Err, IfErr, IsOk, rules, ◌≡◌, subst, sym, ap, ◌∙◌}
+use Rattle.std.proofs.Common.{List, ℕ, [], Ok, Err, IfErr, rules, ◌≡◌, subst, ap, ◌∙◌}
 use Rattle.uvl_script.specs.Lines.{words_of_line}
 use Rattle.uvl_script.proofs.Commands.{no_fault}
 use Rattle.uvl_script.proofs.Reading.{blank_text}
