@@ -16,7 +16,8 @@ use Rattle.uvl_lines.specs.Runs.{Goes, Stops, Breaks, flat}
 abbrev pub TakesAll : Option (List ℕ) → List ℕ → Type 0
 TakesAll input taken = IfSome input (λ bytes. bytes ≡ taken)
 
--- The lines of what was taken of the input: those that ended in it, and where it is all of the input also its last line.
+-- The lines of what was taken of the input: those that ended in it, and where it is all of the input also its last
+-- line.
 abbrev pub AreLinesOf : Option (List ℕ) → List ℕ → List (List ℕ) → Type 0
 AreLinesOf input taken lines = (lines ≡ ended_lines taken) ⊎ (TakesAll input taken × (lines ≡ script_lines taken))
 
@@ -41,7 +42,8 @@ Ends R F s input taken said NoMemory =
 
 -- Some bytes were taken from the front of the input, and what was said was written behind what was written before,
 -- where source and sink tell their bytes.
-pub record AnswersLines {A : Type 0} (R : Replies A) (F : Fetching A) (s : A) (input left written_before written : Option (List ℕ)) (ending : Ending) : Type 0 where
+pub record AnswersLines {A : Type 0} (R : Replies A) (F : Fetching A) (s : A)
+    (input left written_before written : Option (List ℕ)) (ending : Ending) : Type 0 where
   pub taken : List ℕ
   pub said : List ℕ
   pub moved : Consumes input left taken

@@ -9,4 +9,5 @@ EachScriptHasACut = (bytes : List ℕ) → IsCut bytes (ended_lines bytes) (open
 -- there is no other cut
 abbrev pub CutsAreEqual : Type 0
 CutsAreEqual =
-    (bytes : List ℕ) (lines : List (List ℕ)) (unended : List ℕ) → IsCut bytes lines unended → (lines ≡ ended_lines bytes) × (unended ≡ open_line bytes)
+    (bytes : List ℕ) (lines : List (List ℕ)) (unended : List ℕ) → IsCut bytes lines unended
+    → (lines ≡ ended_lines bytes) × (unended ≡ open_line bytes)

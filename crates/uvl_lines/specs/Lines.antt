@@ -6,7 +6,8 @@ use Rattle.std.specs.List.{list_any}
 -- LF, which is no part of it.
 abbrev pub ended_lines_from : List ℕ → List ℕ → List (List ℕ)
 ended_lines_from begun [] = []
-ended_lines_from begun (b ∷ bs) = if b == 10 then begun ∷ ended_lines_from [] bs else ended_lines_from (begun ++ b ∷ []) bs
+ended_lines_from begun (b ∷ bs) =
+    if b == 10 then begun ∷ ended_lines_from [] bs else ended_lines_from (begun ++ b ∷ []) bs
 
 -- the bytes behind the last LF, where the first line has begun with some bytes already
 abbrev pub open_line_from : List ℕ → List ℕ → List ℕ

@@ -15,8 +15,8 @@ reply_of lines = joined lines (codes ".\n")
 abbrev pub refused : List ℕ → List ℕ
 refused word = reply_of ((codes "refused " ++ word) ∷ [])
 
--- The text that answers what a line is read as, and the state behind it. A line without words has no reply, and one with a
--- fault is refused with the word of the fault; both leave the state alone.
+-- The text that answers what a line is read as, and the state behind it. A line without words has no reply, and one with
+-- a fault is refused with the word of the fault; both leave the state alone.
 abbrev pub ReadLine : {A : Type 0} → Replies A → A → Result (Option Command) LineFault → List ℕ → A → Type 0
 ReadLine R s (Ok None) text t = (text ≡ []) × (t ≡ s)
 ReadLine R s (Ok (Some command)) text t = R s command text t

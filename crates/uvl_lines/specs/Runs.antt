@@ -24,15 +24,18 @@ Goes R s (line ∷ lines) (text ∷ texts) t = (m : _) × Line R s line text m �
 -- answered may be any line.
 pub data Stops {A : Type 0} (R : Replies A) : A → List (List ℕ) → List ℕ → Type 0 where
   here : (s : A) (lines : List (List ℕ)) → Stops R s lines []
-  inside : (s t : A) (line text said : List ℕ) (lines : List (List ℕ)) → Line R s line text t → IsFrontOf said text → Stops R s (line ∷ lines) said
-  behind : (s t : A) (line text said : List ℕ) (lines : List (List ℕ)) → Line R s line text t → Stops R t lines said → Stops R s (line ∷ lines) (text ++ said)
+  inside : (s t : A) (line text said : List ℕ) (lines : List (List ℕ)) → Line R s line text t → IsFrontOf said text
+      → Stops R s (line ∷ lines) said
+  behind : (s t : A) (line text said : List ℕ) (lines : List (List ℕ)) → Line R s line text t → Stops R t lines said
+      → Stops R s (line ∷ lines) (text ++ said)
 
 -- the line is a command that fetches a file in this state
 abbrev pub FetchesAt : {A : Type 0} → Fetching A → A → List ℕ → Type 0
 FetchesAt F s line = (command : Command) × (reading_of line ≡ Ok (Some command)) × F s command
 
 -- The lines in front of one that fetches a file have their replies, and nothing is said behind them.
-pub record Breaks {A : Type 0} (R : Replies A) (F : Fetching A) (s : A) (lines : List (List ℕ)) (said : List ℕ) : Type 0 where
+pub record Breaks {A : Type 0} (R : Replies A) (F : Fetching A) (s : A) (lines : List (List ℕ)) (said : List ℕ) :
+    Type 0 where
   pub answered : List (List ℕ)
   pub line : List ℕ
   pub others : List (List ℕ)

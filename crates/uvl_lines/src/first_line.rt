@@ -7,7 +7,8 @@ use memchr::memchr;
 
 /// The bytes in front of the first LF, and those behind it.
 pub(crate) fn split_line(bytes: &[u8]) -> Option<(&[u8], &[u8])>
-    ensures { MatchOption result (has_lf bytes.now ≡ false) (λ parts. BeginsWithLine bytes.now parts.0.now parts.1.now) }
+    ensures { MatchOption result (has_lf bytes.now ≡ false)
+        (λ parts. BeginsWithLine bytes.now parts.0.now parts.1.now) }
 {
     match memchr(b'\n', bytes) {
         None => None,

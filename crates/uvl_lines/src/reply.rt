@@ -46,8 +46,10 @@ fn write_reply<A: Answerer, F: Files>(
     into: &mut Vec<u8>,
 ) -> Result<(), AnswerFault>
     requires { into.old.items ≡ [] }
-    ensures replied { OnOk result (Line (A.replies (F.told files.old)) answerer.old line.now into.new.items answerer.new) }
-    ensures fetching { IfErr result (λ fault. fault ≡ AnswerFault.FetchFailed → FetchesAt A.fetches answerer.old line.now) }
+    ensures replied { OnOk result
+        (Line (A.replies (F.told files.old)) answerer.old line.now into.new.items answerer.new) }
+    ensures fetching { IfErr result
+        (λ fault. fault ≡ AnswerFault.FetchFailed → FetchesAt A.fetches answerer.old line.now) }
     ensures same_files { F.told files.new ≡ F.told files.old }
     ensures counted { Counts (F.faults files.old) (F.faults files.new) (fetch_failed result) }
 {

@@ -19,8 +19,9 @@ use Rattle.uvl_resolve.specs.declared.fault.ResolveFault.TheVariants as resolvin
 use Rattle.uvl_resolve.specs.Causes.{HasCause}
 use Rattle.uvl_resolve.specs.Flat.{Flat}
 use Rattle.uvl_resolve.specs.Laws.{FlatKeepsProducts}
-use Rattle.uvl_run.specs.Loading.{AreTokensOf, IsFileWithoutRuleLists, SaysTree, SaysModel, no_tokens, no_file, no_model, rule_list}
-use Rattle.uvl_run.specs.LoadFaults.{IsCauseIn, of_whole_file, of_lexer, of_parser, of_resolution}
+use Rattle.uvl_run.specs.Loading.{AreTokensOf, IsFileWithoutRuleLists, SaysTree, no_tokens, no_file, no_model, rule_list}
+use Rattle.uvl_run.specs.steps.Loads.{SaysModel}
+use Rattle.uvl_run.specs.steps.LoadFaults.{IsCauseIn, of_whole_file, of_lexer, of_parser, of_resolution}
 use Rattle.uvl_run.specs.RuleLists.{has_rule_list}
 
 -- the tokens of a text are those of its bytes

@@ -4,12 +4,10 @@ use Rattle.std.proofs.lemmas.Bool.{false≢true, false_from_ne_true}
 use Rattle.dd_store.specs.Follow.{assignment_of}
 use Rattle.dd_store.specs.Table.{Table, value_of}
 use Rattle.uvl_model.specs.Family.{is_void}
-use Rattle.uvl_model.specs.Laws.{MarksGiveProducts, ProductsAreSets, VoidFamiliesHaveNoSet, MarksTellVoidFamilies}
-use Rattle.uvl_model.specs.Marks.{StandFor}
+use Rattle.uvl_model.specs.Laws.{ProductsAreSets, VoidFamiliesHaveNoSet, MarksTellVoidFamilies}
 use Rattle.uvl_model.specs.Names.{chosen_names}
 use Rattle.uvl_model.specs.Products.{Products}
 use Rattle.uvl_model.specs.Rows.{Rows}
-use Rattle.uvl_model.specs.Sound.{IsSound}
 use Rattle.uvl_compile.specs.Chosen.{chosen_features}
 use Rattle.uvl_compile.specs.Laws.{MarksChooseFeatures}
 use Rattle.uvl_run.specs.steps.Compiled.{IsCompiled}
@@ -18,11 +16,6 @@ module _ (model : Rows) (t : Table) (products : ℕ) (compiled : IsCompiled mode
   -- the value under marks is whether what they mark is a product
   value_of_marks : MarksChooseFeatures → (marks : List Bool) → value_of t products (assignment_of marks) ≡ (Products model).contains (chosen_names model marks)
   value_of_marks choose marks = compiled.value (assignment_of marks) ∙ ap (Products model).contains (choose model marks)
-
-  -- and so it is whether a set is one for which the marks stand
-  pub value_of_set : MarksChooseFeatures → MarksGiveProducts → IsSound model → (set : List (List ℕ)) (marks : List Bool) → StandFor (Products model).names marks set
-      → value_of t products (assignment_of marks) ≡ (Products model).contains set
-  value_of_set choose law sound set marks stand = value_of_marks choose marks ∙ law model marks set sound stand
 
   -- a diagram that is no for all assignments is that of a void family
   void-always_no : MarksChooseFeatures → MarksTellVoidFamilies → ((a : ℕ → Bool) → value_of t products a ≡ false) → true ≡ is_void (Products model)

@@ -9,8 +9,9 @@ use Rattle.uvl_base.specs.Limits.{most_file_bytes}
 use Rattle.uvl_model.specs.Rows.{Rows}
 use Rattle.uvl_run.specs.declared.load.LoadFault.{LoadFault}
 use Rattle.uvl_run.specs.declared.load.LoadFault.TheVariants.{Model, Host, OutOfMemory}
-use Rattle.uvl_run.specs.Loading.{first_place, IsOfWholeFile, SaysModel, HasFaultIn, HasFault, IsLoaded, LoadsFault}
-use Rattle.uvl_run.specs.LoadFaults.{IsCauseOf, IsCauseIn}
+use Rattle.uvl_run.specs.Loading.{first_place, IsOfWholeFile, HasFaultIn, HasFault, LoadsFault}
+use Rattle.uvl_run.specs.steps.Loads.{SaysModel, IsLoaded}
+use Rattle.uvl_run.specs.steps.LoadFaults.{IsCauseOf, IsCauseIn}
 
 -- a whole file that says a tree is the model of it
 pub model_of_whole : (told : Option Contents) (path bytes : List ℕ) → IsWhole told path most_file_bytes bytes → (result : Result Rows LoadFault) → IfOk result (SaysModel bytes) → IfOk result (IsLoaded told path)

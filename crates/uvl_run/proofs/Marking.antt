@@ -4,7 +4,7 @@ use Rattle.std.specs.List.{slice_get, list_all}
 use Rattle.std.specs.Str.{bytes_eq}
 use Rattle.std.proofs.lemmas.Bool.{and_from, or_from, or_left, or_right, cases_eq, cases_lt, false_from_ne_true}
 use Rattle.std.proofs.lemmas.List.{length-replicate, take_more, get_or-replicate, get_or-set_same, get_or-set_other, get_or_past}
-use Rattle.std.proofs.lemmas.List.Folds.{list_any-append, list_all-append, list_all_at}
+use Rattle.std.proofs.lemmas.List.Folds.{list_any-append, list_all-append}
 use Rattle.std.proofs.lemmas.Option.{same_Some, unwrap_or-slice_get}
 use Rattle.std.proofs.lemmas.Slice.Eq.{bytes_eq-Decides}
 use Rattle.uvl_model.specs.declared.rows.FeatureNo.{FeatureNo}
@@ -73,7 +73,3 @@ stand-next names marks words i word f inside here within known place stand =
     let next : take i words ++ word ∷ [] ≡ take (i + 1) words = ap (λ (w : List ℕ). take i words ++ w ∷ []) here ∙ sym (take_more words i word inside) in
     let P : List (List ℕ) → Type 0 = λ set'. StandFor names (set marks f.0 true) set' in
     subst P next (stand-more names marks (take i words) word f within (sym known) place stand)
-
--- where one of the words is no name, not all are
-pub some_unknown : (names words : List (List ℕ)) (i : ℕ) (word : List ℕ) → i < length words → word ≡ get_or words i word → false ≡ has names word → false ≡ list_all (has names) words
-some_unknown names words i word inside here unknown = sym (list_all_at (has names) words i word inside (ap (has names) (sym here) ∙ sym unknown))

@@ -124,18 +124,6 @@ module _ (line : List ℕ) (whole : Status) (before now : Option (List ℕ)) (fa
     no_input = refl;
   }
 
--- memory was wanting before it was there
-pub unwritten : (line : List ℕ) (whole status : Status) (written : Option (List ℕ)) (faults : ℕ) → status ≡ (outcome_of lines.NoMemory).status → WritesLine line whole written written faults faults status
-unwritten line whole status written faults is = record {
-  said = [];
-  failed = None;
-  wrote = appends_nothing written;
-  says = inr (putting.OutOfMemory, (line, refl), outcome_is lines.NoMemory status is);
-  output = uncounted faults;
-  no_files = refl;
-  no_input = refl;
-}
-
 -- ---- the ends
 
 module _ (words : List (List ℕ)) (told : Option Contents) (left w w' : Option (List ℕ)) (files input output output' : ℕ) where

@@ -3,7 +3,6 @@ pub mod Budget
 pub mod Exactly
 pub mod InMemory
 pub mod Laws
-pub mod LoadFaults
 pub mod Loading
 pub mod Outside
 pub mod Products

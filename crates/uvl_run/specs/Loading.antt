@@ -11,8 +11,6 @@ use Rattle.uvl_lexer.specs.declared.token.Token.{Token}
 use Rattle.uvl_lexer.specs.Layout.{Tokens, Stops}
 use Rattle.uvl_ast.specs.declared.file.File.{File}
 use Rattle.uvl_parser.specs.Parsing.{IsParsedAs, IsRefusedAt}
-use Rattle.uvl_model.specs.Products.{Products, ProductsOfTree}
-use Rattle.uvl_model.specs.Rows.{Rows}
 use Rattle.uvl_model.specs.Tree.{Tree, names_of}
 use Rattle.uvl_resolve.specs.Built.{AreModelNames}
 use Rattle.uvl_resolve.specs.Causes.{HasCause}
@@ -95,14 +93,6 @@ LoadsModel told path tree = (content : Option (List ℕ)) × Tells told path con
 -- what is told to be at the path has the fault
 abbrev pub LoadsFault : Option Contents → List ℕ → Place → FaultKind → Type 0
 LoadsFault told path place kind = IfSome told (λ contents. HasFault (contents path) place kind)
-
--- the rows are those of the model at the path: their products are those of its tree
-abbrev pub IsLoaded : Option Contents → List ℕ → Rows → Type 0
-IsLoaded told path rows = (tree : Tree) × LoadsModel told path tree × (Products rows ≡ ProductsOfTree tree)
-
--- the rows are those of the model that the bytes say
-abbrev pub SaysModel : List ℕ → Rows → Type 0
-SaysModel bytes rows = (tree : Tree) × SaysTree bytes tree × (Products rows ≡ ProductsOfTree tree)
 
 -- a fault of the file at a path
 abbrev pub fault_in : List ℕ → Place → FaultKind → ModelFault

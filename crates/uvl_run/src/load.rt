@@ -5,8 +5,9 @@ ghost use Rattle.uvl_ast.specs.Members.{EachGroupHasMembers};
 ghost use Rattle.uvl_base.specs.Limits.{most_file_bytes, most_depth};
 ghost use Rattle.uvl_outside.specs.Faults.{Counts};
 ghost use Rattle.uvl_model.specs.OptionalGroups.{GroupsAreMandatoryOrOptional};
-ghost use Rattle.uvl_run.specs.LoadFaults.{IsCauseOf, IsCauseIn, load_failed, of_whole_file};
-ghost use Rattle.uvl_run.specs.Loading.{IsFileWithoutRuleLists, IsLoaded, SaysModel};
+ghost use Rattle.uvl_run.specs.steps.LoadFaults.{IsCauseOf, IsCauseIn, load_failed, of_whole_file};
+ghost use Rattle.uvl_run.specs.Loading.{IsFileWithoutRuleLists};
+ghost use Rattle.uvl_run.specs.steps.Loads.{IsLoaded, SaysModel};
 
 use crate::rule_lists::has_rule_list;
 use std::alloc::Global;
@@ -40,7 +41,7 @@ impl LoadFault {
 
 impl From<LexFault> for LoadFault {
     ghost use Rattle.std.specs.Prelude.{◌≡◌};
-    ghost use Rattle.uvl_run.specs.LoadFaults.{of_lexer};
+    ghost use Rattle.uvl_run.specs.steps.LoadFaults.{of_lexer};
 
     ghost from_gives = { λ fault load_fault. load_fault ≡ of_lexer fault };
 
@@ -54,7 +55,7 @@ impl From<LexFault> for LoadFault {
 
 impl From<ParseFault> for LoadFault {
     ghost use Rattle.std.specs.Prelude.{◌≡◌};
-    ghost use Rattle.uvl_run.specs.LoadFaults.{of_parser};
+    ghost use Rattle.uvl_run.specs.steps.LoadFaults.{of_parser};
 
     ghost from_gives = { λ fault load_fault. load_fault ≡ of_parser fault };
 
@@ -68,7 +69,7 @@ impl From<ParseFault> for LoadFault {
 
 impl From<ResolveFault> for LoadFault {
     ghost use Rattle.std.specs.Prelude.{◌≡◌};
-    ghost use Rattle.uvl_run.specs.LoadFaults.{of_resolution};
+    ghost use Rattle.uvl_run.specs.steps.LoadFaults.{of_resolution};
 
     ghost from_gives = { λ fault load_fault. load_fault ≡ of_resolution fault };
 

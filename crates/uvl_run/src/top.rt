@@ -4,9 +4,10 @@ ghost use Rattle.uvl_compile.specs.Nodes.{most_nodes_of};
 ghost use Rattle.uvl_model.specs.OptionalGroups.{GroupsAreMandatoryOrOptional};
 ghost use Rattle.uvl_words.specs.Budgets.{least_budget, most_budget};
 ghost use Rattle.uvl_run.specs.Exactly.{IsExact};
-ghost use Rattle.uvl_run.specs.Loading.{IsLoaded, fault_in};
+ghost use Rattle.uvl_run.specs.Loading.{fault_in};
 ghost use Rattle.uvl_run.specs.Outside.{seen};
 ghost use Rattle.uvl_run.specs.Run.{Answers, NamesModel, fault_line};
+ghost use Rattle.uvl_run.specs.steps.Loads.{IsLoaded};
 ghost use Rattle.uvl_run.specs.steps.Says.{WritesLine};
 
 use crate::Status;

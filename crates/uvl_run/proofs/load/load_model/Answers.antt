@@ -1,7 +1,7 @@
 -- What was fetched says what the model is, or which fault it has.
 use Rattle.std.proofs.Common.{List, ℕ, IfOk, IfErr, subst}
-use Rattle.uvl_run.specs.Loading.{SaysModel}
-use Rattle.uvl_run.specs.LoadFaults.{IsCauseIn}
+use Rattle.uvl_run.specs.steps.Loads.{SaysModel}
+use Rattle.uvl_run.specs.steps.LoadFaults.{IsCauseIn}
 use Rattle.uvl_run.proofs.Loads.{model_of_whole, fault_of_whole, fault_of_too_long}
 use Rattle.uvl_run.proofs.load.load_model.Goals as goal
 

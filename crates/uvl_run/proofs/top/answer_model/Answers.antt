@@ -1,7 +1,7 @@
 -- Each way through a run with a model, and the end that it comes to.
 use Rattle.std.proofs.Common.{Option, sym, refl, subst}
 use Rattle.uvl_outside.specs.Files.{Contents}
-use Rattle.uvl_run.specs.Loading.{IsLoaded}
+use Rattle.uvl_run.specs.steps.Loads.{IsLoaded}
 use Rattle.uvl_run.proofs.Runs.{faulty, unread, no_memory, from_loaded}
 use Rattle.uvl_run.proofs.top.answer_model.Goals as goal
 
