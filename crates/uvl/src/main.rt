@@ -4,6 +4,7 @@
 
 use std::alloc::AllocError;
 use std::env;
+use std::io::ErrorKind;
 use std::process::ExitCode;
 use uvl_outside::{HostFiles, StdSink, StdSource};
 use uvl_run::{Status, run};
@@ -20,10 +21,14 @@ fn main(rt: HostRuntime) -> ExitCode {
 /// refused like any other words that name no model.
 fn words(rt: &HostRuntime) -> Result<Vec<String>, AllocError> {
     let mut words = Vec::new(rt.alloc());
-    if let Ok(arguments) = env::args(rt) {
-        for word in arguments.skip(1) {
-            words.push(word)?;
+    match env::args(rt) {
+        Ok(arguments) => {
+            for word in arguments.skip(1) {
+                words.push(word)?;
+            }
         }
+        Err(error) if error.kind() == ErrorKind::OutOfMemory => return Err(AllocError),
+        Err(_) => {}
     }
     Ok(words)
 }

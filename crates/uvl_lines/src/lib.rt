@@ -11,4 +11,5 @@ mod script;
 pub use answerer::{AnswerFault, Answerer};
 pub use ending::Ending;
 pub use laws::every_script_has_one_cut;
+pub use reply::push_refusal;
 pub use script::answer_lines;

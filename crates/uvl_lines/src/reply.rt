@@ -62,7 +62,7 @@ fn write_reply<A: Answerer, F: Files>(
 }
 
 /// Writes that a line is refused, with the reason, behind what the buffer has.
-fn push_refusal(word: &str, into: &mut Vec<u8>) -> Result<(), AllocError>
+pub fn push_refusal(word: &str, into: &mut Vec<u8>) -> Result<(), AllocError>
     ensures { OnOk result (into.new.items ≡ into.old.items ++ refused word.now) }
 {
     into.extend_from_slice(b"refused ".as_slice())?;

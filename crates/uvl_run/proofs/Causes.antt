@@ -1,5 +1,5 @@
 -- What the answers of the layers say of the bytes of a file.
-use Rattle.std.proofs.Common.{◌≡◌, ℕ, true, false, List, inl, inr, refl, subst}
+use Rattle.std.proofs.Common.{◌≡◌, ℕ, true, false, List, refl, subst}
 use Rattle.std.specs.Prelude.{chars}
 use Rattle.std.specs.Str.{IsUtf8}
 use Rattle.uvl_base.specs.declared.fault.FaultKind.TheVariants.{NotBuilt}
@@ -13,14 +13,13 @@ use Rattle.uvl_parser.specs.declared.fault.ParseFault.{ParseFault}
 use Rattle.uvl_parser.specs.declared.fault.ParseFault.TheVariants as parsing
 use Rattle.uvl_parser.specs.Parsing.{IsParsedAs, IsRefusedAt}
 use Rattle.uvl_parser.specs.Parsing as parser
-use Rattle.uvl_model.specs.Tree.{Tree, names_of}
+use Rattle.uvl_model.specs.Rows.{Rows}
 use Rattle.uvl_resolve.specs.declared.fault.ResolveFault.{ResolveFault}
 use Rattle.uvl_resolve.specs.declared.fault.ResolveFault.TheVariants as resolving
-use Rattle.uvl_resolve.specs.Built.{AreModelNames, IsBuilt}
 use Rattle.uvl_resolve.specs.Causes.{HasCause}
-use Rattle.uvl_resolve.specs.Laws.{FilesHaveOneTree, FilesAreBuiltOrHaveACause}
-use Rattle.uvl_resolve.specs.TreeOf.{IsTreeOf}
-use Rattle.uvl_run.specs.Loading.{AreTokensOf, IsFileWithoutRuleLists, SaysTree, no_tokens, no_file, no_model, rule_list}
+use Rattle.uvl_resolve.specs.Flat.{Flat}
+use Rattle.uvl_resolve.specs.Laws.{FlatKeepsProducts}
+use Rattle.uvl_run.specs.Loading.{AreTokensOf, IsFileWithoutRuleLists, SaysTree, SaysModel, no_tokens, no_file, no_model, rule_list}
 use Rattle.uvl_run.specs.LoadFaults.{IsCauseIn, of_whole_file, of_lexer, of_parser, of_resolution}
 use Rattle.uvl_run.specs.RuleLists.{has_rule_list}
 
@@ -51,13 +50,9 @@ pub cause_of_resolution : (bytes : List ℕ) (file : File) → IsFileWithoutRule
 cause_of_resolution bytes file text resolving.NotBuilt cause = no_model file text.written (cause refl) (refl, refl)
 cause_of_resolution bytes file text resolving.OutOfMemory cause = tt
 
--- a file against which there is no cause is built
-pub built : FilesAreBuiltOrHaveACause → (file : File) → (HasCause file → ⊥) → IsBuilt file
-built law file none = elim (law file).0 [ inl is ↦ is | inr cause ↦ absurd (none cause) ]
-
--- bytes of a file that says a tree, against which there is no cause, say the tree
-pub says_tree : FilesHaveOneTree → FilesAreBuiltOrHaveACause → (bytes : List ℕ) (file : File) (tree : Tree) → IsFileWithoutRuleLists bytes file → (HasCause file → ⊥) → IsTreeOf file tree → SaysTree bytes tree
-says_tree one law bytes file tree text none says =
-    let is = built law file none in
-    let P : Tree → Type 0 = λ t. AreModelNames (names_of t) in
-    record { file = file; text = text; says = says; names = subst P (one file is.tree tree is.of_file says) is.names }
+-- the model of a file without such a list is the one that its bytes say
+pub says_model : FlatKeepsProducts → (bytes : List ℕ) (file : File) (rows : Rows) → IsFileWithoutRuleLists bytes file → Flat file rows → SaysModel bytes rows
+says_model keeps bytes file rows text flat =
+    let built = flat.built in
+    let says : SaysTree bytes built.tree = record { file = file; text = text; says = built.of_file; names = built.names } in
+    (built.tree, says, keeps file rows built.tree flat built.of_file)

@@ -1,63 +1,100 @@
 -- Over objects that tell everything and never fail, what a run answers is the run of its files and its script.
-use Rattle.std.proofs.Common.{◌≡◌, ℕ, ◌<◌, ◌≤◌, List, ◌++◌, length, take, Option, Some, inl, inr, sym, ap, ◌∙◌, subst, arith, length-append}
+use Rattle.std.proofs.Common.{◌≡◌, ℕ, ◌<◌, ◌≤◌, List, ◌++◌, length, take, Option, Some, inl, inr, refl, sym, ap, ◌∙◌, subst, arith, length-append}
 use Rattle.std.proofs.lemmas.List.{take-append-le}
-use Rattle.uvl_outside.specs.Faults.{Counts}
 use Rattle.uvl_outside.specs.Files.{Contents}
+use Rattle.uvl_outside.specs.declared.sink.PutFault.{PutFault}
+use Rattle.uvl_outside.specs.declared.sink.PutFault.TheVariants as putting
+use Rattle.uvl_base.specs.declared.fault.FaultKind.{FaultKind}
+use Rattle.uvl_base.specs.declared.place.Place.{Place}
+use Rattle.uvl_base.specs.Limits.{most_script_bytes}
+use Rattle.uvl_lines.specs.declared.ending.Ending.{Ending}
+use Rattle.uvl_lines.specs.declared.ending.Ending.TheVariants as lines
+use Rattle.uvl_lines.specs.Endings.{Ends, IsAnswered, ending_of_put}
+use Rattle.uvl_lines.specs.Lines.{ended_lines, script_lines}
+use Rattle.uvl_lines.specs.Runs.{IsFrontOf}
 use Rattle.uvl_model.specs.Tree.{Tree}
 use Rattle.uvl_run.specs.declared.status.Status.{Status}
-use Rattle.uvl_run.specs.declared.status.Status.TheVariants.{Done, Usage, Model, ReadFault, WriteFault, OverBudget, NoMemory, TooMuchInput}
-use Rattle.uvl_run.specs.Lines.{ended_lines, script_lines}
-use Rattle.uvl_run.specs.CommandLine.{Request, request_of}
-use Rattle.uvl_run.specs.Loading.{IsModelOf, LoadsModel}
-use Rattle.uvl_run.specs.Replies.{replies_to}
-use Rattle.uvl_run.specs.Run.{IsAccepted, EndsRun, Answers, CountsReads}
-use Rattle.uvl_run.specs.Script.{most_script_bytes}
-use Rattle.uvl_run.specs.Status.{is_write_fault}
-use Rattle.uvl_run.specs.InMemory.{NamesModel, Suffices, IsTooSmall, IsRun}
+use Rattle.uvl_run.specs.declared.status.Status.TheVariants.{Usage, Model, OverBudget}
+use Rattle.uvl_run.specs.InMemory.{HasTree, HasFaultLine, IsCutShort, IsRun, nothing, in_usage, in_fault, in_budget, in_script}
+use Rattle.uvl_run.specs.Loading.{IsModelOf, LoadsModel, fault_in}
+use Rattle.uvl_run.specs.Outside.{Object, the_files, the_input, the_output, Outside, seen, AreCounted}
+use Rattle.uvl_run.specs.Replies.{Reply, Fetches}
+use Rattle.uvl_run.specs.Run.{NamesModel, IsAccepted, IsFaulty, SaysLine, EndsRun, Answers, fault_line, words_refused, model_faulty, over_budget, model_unread, starved, script_answered}
+use Rattle.uvl_run.specs.State.{State, IsStart}
+use Rattle.uvl_run.specs.Status.{Outcome, unhindered, outcome_of}
 
-named_model : (words : List (List ℕ)) (contents : Contents) (tree : Tree) (request : Request) (holds : ℕ → Type 0) → request_of words ≡ Some request → LoadsModel (Some contents) request.path tree → holds request.budget → NamesModel words contents tree holds
-named_model words contents tree request holds named loads budget =
-    let P : Option (List ℕ) → Type 0 = λ o. IsModelOf o tree in
-    (request, named, subst P (sym loads.1) loads.2, budget)
+module _ (words : List (List ℕ)) (contents : Contents) (script left written_before written : List ℕ) where
+  -- the objects before and now: none has failed
+  abbrev before : Outside
+  before = seen (Some script) (Some written_before) 0 0 0
 
-accepted_model : (words : List (List ℕ)) (contents : Contents) (tree : Tree) → IsAccepted words (Some contents) tree → NamesModel words contents tree (Suffices tree)
-accepted_model words contents tree accepted =
-    named_model words contents tree accepted.request (Suffices tree) accepted.named accepted.loads accepted.enough
+  abbrev now : Outside
+  now = seen (Some left) (Some written) 0 0 0
 
--- the first bytes of a script are those of what was taken of it
-front_of_taken : (script taken left : List ℕ) → script ≡ taken ++ left → most_script_bytes < length taken → take most_script_bytes taken ≡ take most_script_bytes script
-front_of_taken script taken left moved long =
-    let short : most_script_bytes ≤ length taken = omega arith in
-    sym (ap (take most_script_bytes) moved ∙ take-append-le most_script_bytes taken left short)
+  -- no object has failed
+  none_failed : (object : Object) → AreCounted (Some object) before now → ⊥
+  none_failed the_files counted = let rose = counted.files.rises in absurd (omega arith)
+  none_failed the_input counted = let rose = counted.input.rises in absurd (omega arith)
+  none_failed the_output counted = let rose = counted.output.rises in absurd (omega arith)
 
--- the script is longer than what a script may be
-long_script : (script taken left : List ℕ) → script ≡ taken ++ left → most_script_bytes < length taken → most_script_bytes < length script
-long_script script taken left moved long = omega (arith, ap length moved, length-append taken left)
+  -- what is known of an outcome, the counts with it
+  abbrev Plain : List ℕ → Outcome → Type 0
+  Plain said o = AreCounted o.failed before now → IsRun words contents script said o.status
 
-plain : (words : List (List ℕ)) (contents : Contents) (script left taken said : List ℕ) (status : Status) → script ≡ taken ++ left → EndsRun words (Some contents) (Some script) taken said status → CountsReads 0 0 0 0 status → Counts 0 0 (is_write_fault status) → IsRun words contents script said status
-plain words contents script left taken said Done moved ended reads writes = (
-  ended.0,
-  accepted_model words contents ended.0 ended.1,
-  omega (arith, ap length ended.2.0, ended.2.1),
-  ended.2.2 ∙ ap (λ (t : List ℕ). replies_to ended.0 (script_lines t)) (sym ended.2.0),
-)
-plain words contents script left taken said Usage moved ended reads writes = (ended.0, ended.2)
-plain words contents script left taken said Model moved ended reads writes =
-    (ended.0, ended.1, ended.2, ended.3.named, ended.3.faulty, ended.5)
-plain words contents script left taken said ReadFault moved ended reads writes =
-    elim reads.rises [ inl rose ↦ absurd (omega arith) | inr rose ↦ absurd (omega arith) ]
-plain words contents script left taken said WriteFault moved ended reads writes = let rose = writes.rises in absurd (omega arith)
-plain words contents script left taken said OverBudget moved ended reads writes =
-    (ended.0, named_model words contents ended.0 ended.1.request (IsTooSmall ended.0) ended.1.named ended.1.loads ended.1.short, ended.3)
-plain words contents script left taken said NoMemory moved ended reads writes = tt
-plain words contents script left taken said TooMuchInput moved ended reads writes = (
-  ended.0,
-  accepted_model words contents ended.0 ended.1,
-  long_script script taken left moved ended.2.0,
-  ended.2.1 ∙ ap (λ (t : List ℕ). replies_to ended.0 (ended_lines t)) (front_of_taken script taken left moved ended.2.0),
-)
+  plain_as : (said : List ℕ) (o given : Outcome) → o ≡ given → Plain said given → Plain said o
+  plain_as said o given is plain = let P : Outcome → Type 0 = λ x. Plain said x in subst P (sym is) plain
 
--- what was said is the run's, and stands behind what was written before
-pub in_memory : (words : List (List ℕ)) (contents : Contents) (script left written_before written : List ℕ) (status : Status) → Answers words (Some contents) (Some script) (Some left) (Some written_before) (Some written) status → CountsReads 0 0 0 0 status → Counts 0 0 (is_write_fault status) → (said : List ℕ) × (written ≡ written_before ++ said) × IsRun words contents script said status
-in_memory words contents script left written_before written status answers reads writes =
-    (answers.said, answers.wrote, plain words contents script left answers.taken answers.said status answers.moved answers.ends reads writes)
+  tree_at : (path : List ℕ) (budget : ℕ) (tree : Tree) → NamesModel words path budget → LoadsModel (Some contents) path tree → HasTree words contents tree budget
+  tree_at path budget tree named loads =
+      let P : Option (List ℕ) → Type 0 = λ content. IsModelOf content tree in
+      record { path = path; named = named; is = subst P (sym loads.1) loads.2 }
+
+  by_put : (said : List ℕ) (fault : PutFault) → IsCutShort words contents script said → Plain said (outcome_of (ending_of_put fault))
+  by_put said putting.Failed short counted = absurd (none_failed the_output counted)
+  by_put said putting.OutOfMemory short counted = short
+
+  -- the one line of a run was written, or memory was wanting for it
+  by_line : (line said : List ℕ) (status : Status) (o : Outcome) → SaysLine line status said o → (said ≡ line → IsRun words contents script said status)
+      → (IsFrontOf said line → IsCutShort words contents script said) → Plain said o
+  by_line line said status o (inl whole) run short = plain_as said o (unhindered status) whole.1 (λ counted. run whole.0)
+  by_line line said status o (inr front) run short = plain_as said o (outcome_of (ending_of_put front.0)) front.2 (by_put said front.0 (short front.1))
+
+  -- the first bytes of a script are those of what was taken of it
+  front_of_taken : (taken : List ℕ) → script ≡ taken ++ left → most_script_bytes < length taken → take most_script_bytes taken ≡ take most_script_bytes script
+  front_of_taken taken moved long =
+      let fits : most_script_bytes ≤ length taken = omega arith in
+      sym (ap (take most_script_bytes) moved ∙ take-append-le most_script_bytes taken left fits)
+
+  by_ending : (tree : Tree) (budget : ℕ) (start : State) (taken said : List ℕ) (ending : Ending) → script ≡ taken ++ left → IsAccepted words (Some contents) tree budget → IsStart tree budget start
+      → Ends Reply Fetches start (Some script) taken said ending → Plain said (outcome_of ending)
+  by_ending tree budget start taken said lines.Done moved accepted starts ends counted =
+      let P : List ℕ → Type 0 = λ bytes. IsAnswered Reply start (script_lines bytes) said in
+      (tree, budget, tree_at accepted.path budget tree accepted.named accepted.loads, accepted.enough, omega (arith, ap length ends.0, ends.1), (start, starts, subst P (sym ends.0) ends.2))
+  by_ending tree budget start taken said lines.TooMuch moved accepted starts ends counted =
+      let P : List ℕ → Type 0 = λ bytes. IsAnswered Reply start (ended_lines bytes) said in
+      let long : most_script_bytes < length script = omega (arith, ends.0, ap length moved, length-append taken left) in
+      (tree, budget, tree_at accepted.path budget tree accepted.named accepted.loads, accepted.enough, long, (start, starts, subst P (front_of_taken taken moved ends.0) ends.1))
+  by_ending tree budget start taken said lines.InputFailed moved accepted starts ends counted = absurd (none_failed the_input counted)
+  by_ending tree budget start taken said lines.FetchFailed moved accepted starts ends counted = absurd (none_failed the_files counted)
+  by_ending tree budget start taken said lines.WriteFailed moved accepted starts ends counted = absurd (none_failed the_output counted)
+  by_ending tree budget start taken said lines.NoMemory moved accepted starts ends counted =
+      in_script tree budget start taken (tree_at accepted.path budget tree accepted.named accepted.loads) accepted.enough starts (left, sym moved) ends
+
+  fault_line_of : (path : List ℕ) (place : Place) (kind : FaultKind) (line : List ℕ) → IsFaulty words (Some contents) path place kind → line ≡ fault_line (fault_in path place kind) → HasFaultLine words contents line
+  fault_line_of path place kind line faulty is =
+      record { path = path; budget = faulty.budget; named = faulty.named; place = place; kind = kind; is = faulty.faulty; spelled = is }
+
+  plain : (taken said : List ℕ) (o : Outcome) → script ≡ taken ++ left → EndsRun words (Some contents) (Some script) taken said o → Plain said o
+  plain taken said o moved (words_refused refused none says) = by_line _ said Usage o says (λ is. (refused, is)) (λ front. in_usage refused front)
+  plain taken said o moved (model_faulty path place kind faulty none says) =
+      by_line _ said Model o says (λ is. fault_line_of path place kind said faulty is) (λ front. in_fault _ (fault_line_of path place kind _ faulty refl) front)
+  plain taken said o moved (over_budget tree budget over none says) =
+      let has = tree_at over.path budget tree over.named over.loads in
+      by_line _ said OverBudget o says (λ is. (tree, budget, has, over.short, is)) (λ front. in_budget tree budget has over.short front)
+  plain taken said o moved (model_unread path budget named untouched is) = plain_as said o (outcome_of lines.FetchFailed) is (λ counted. absurd (none_failed the_files counted))
+  plain taken said o moved (starved untouched is) = plain_as said o (outcome_of lines.NoMemory) is (λ counted. nothing untouched.1)
+  plain taken said o moved (script_answered tree budget start ending accepted starts ends is) = plain_as said o (outcome_of ending) is (by_ending tree budget start taken said ending moved accepted starts ends)
+
+  -- what was said is the run's, and stands behind what was written before
+  pub in_memory : (status : Status) → Answers words (Some contents) before now status → (said : List ℕ) × (written ≡ written_before ++ said) × IsRun words contents script said status
+  in_memory status run = (run.said, run.wrote, plain run.taken run.said (record { status = status; failed = run.failed }) run.moved run.ends run.counted)

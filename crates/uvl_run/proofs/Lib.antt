@@ -1,15 +1,10 @@
-pub mod CommandLine
+-- Lemmas on models that are loaded and compiled, on what a run says, and on when each status comes.
 pub mod Causes
 pub mod Compiling
-pub mod Cutting
 pub mod Exactly
-pub mod FirstLine
 pub mod InMemory
-pub mod Kept
 pub mod LoadedOnce
 pub mod Loads
 pub mod Marking
-pub mod Progress
 pub mod Runs
-pub mod SoFar
 pub mod Told

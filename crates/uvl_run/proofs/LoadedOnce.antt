@@ -8,6 +8,7 @@ use Rattle.std.specs.Str.{IsUtf8, is_utf8}
 use Rattle.uvl_base.specs.declared.fault.FaultKind.{FaultKind}
 use Rattle.uvl_base.specs.declared.fault.FaultKind.TheVariants.{Absent, TooLong, NotUtf8, NotBuilt}
 use Rattle.uvl_base.specs.declared.place.Place.{Place}
+use Rattle.uvl_base.specs.Limits.{most_file_bytes}
 use Rattle.uvl_lexer.specs.declared.token.Token.{Token}
 use Rattle.uvl_lexer.specs.Law.{HasTokens, HasStop, EachTextIsReadOnce}
 use Rattle.uvl_lexer.specs.TokenList.{TokensAreAList}
@@ -19,7 +20,7 @@ use Rattle.uvl_resolve.specs.Causes.{HasCause}
 use Rattle.uvl_resolve.specs.Laws.{FilesHaveOneTree, FilesAreBuiltOrHaveACause}
 use Rattle.uvl_resolve.specs.TreeOf.{IsTreeOf}
 use Rattle.uvl_run.specs.Laws.{HasOneTree, HasOneFault, EachContentIsLoadedOnce}
-use Rattle.uvl_run.specs.Loading.{most_file_bytes, first_place, AreTokensOf, IsFileOf, SaysTree, HasFaultIn, no_text, no_tokens, no_file, no_model, rule_list, IsModelOf}
+use Rattle.uvl_run.specs.Loading.{first_place, AreTokensOf, IsFileOf, SaysTree, HasFaultIn, no_text, no_tokens, no_file, no_model, rule_list, IsModelOf}
 use Rattle.uvl_run.specs.RuleLists.{has_rule_list}
 use Rattle.uvl_run.proofs.Loads.{fault_within, within_fault, fault_beyond, beyond_fault}
 

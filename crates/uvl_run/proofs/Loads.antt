@@ -5,18 +5,17 @@ use Rattle.uvl_outside.specs.Files.{Contents, IsWhole, IsTooLong}
 use Rattle.uvl_base.specs.declared.fault.FaultKind.{FaultKind}
 use Rattle.uvl_base.specs.declared.fault.FaultKind.TheVariants.{TooLong}
 use Rattle.uvl_base.specs.declared.place.Place.{Place}
-use Rattle.uvl_model.specs.Tree.{Tree}
+use Rattle.uvl_base.specs.Limits.{most_file_bytes}
 use Rattle.uvl_model.specs.Rows.{Rows}
-use Rattle.uvl_model.specs.Spelling.{Spells}
 use Rattle.uvl_run.specs.declared.load.LoadFault.{LoadFault}
 use Rattle.uvl_run.specs.declared.load.LoadFault.TheVariants.{Model, Host, OutOfMemory}
-use Rattle.uvl_run.specs.Loading.{most_file_bytes, first_place, IsOfWholeFile, SaysTree, HasFaultIn, HasFault, LoadsModel, LoadsFault}
+use Rattle.uvl_run.specs.Loading.{first_place, IsOfWholeFile, SaysModel, HasFaultIn, HasFault, IsLoaded, LoadsFault}
 use Rattle.uvl_run.specs.LoadFaults.{IsCauseOf, IsCauseIn}
 
 -- a whole file that says a tree is the model of it
-pub model_of_whole : (told : Option Contents) (path bytes : List ℕ) → IsWhole told path most_file_bytes bytes → (result : Result Rows LoadFault) → IfOk result (λ model. (tree : Tree) × Spells tree model × SaysTree bytes tree) → IfOk result (λ model. (tree : Tree) × Spells tree model × LoadsModel told path tree)
+pub model_of_whole : (told : Option Contents) (path bytes : List ℕ) → IsWhole told path most_file_bytes bytes → (result : Result Rows LoadFault) → IfOk result (SaysModel bytes) → IfOk result (IsLoaded told path)
 model_of_whole told path bytes whole (Ok model) read =
-    (read.0, read.1, (Some bytes, whole.exact, record { bytes = bytes; there = refl; within = whole.within; says = read.2 }))
+    (read.0, (Some bytes, whole.exact, record { bytes = bytes; there = refl; within = whole.within; says = read.1 }), read.2)
 model_of_whole told path bytes whole (Err fault) read = tt
 
 pub short : (bytes : List ℕ) → length bytes ≤ most_file_bytes → ltb most_file_bytes (length bytes) ≡ false

@@ -1,110 +1,247 @@
 -- How each end of a run comes about.
-use Rattle.std.proofs.Common.{◌≡◌, ℕ, ◌<◌, ◌≤◌, List, [], Option, Some, None, inl, inr, refl, sym, subst}
+use Rattle.std.proofs.Common.{◌≡◌, ℕ, ◌<◌, ◌≤◌, ◌*◌, Bool, true, false, IsFalse, List, [], length, take, Option, Some, None, Err, inl, inr, refl, sym, ap, ◌∙◌, subst, arith}
+use Rattle.std.proofs.lemmas.List.{length-map}
+use Rattle.std.specs.Prelude.{⊤}
+use Rattle.std.specs.Io.KnownBytes.{Appends}
+use Rattle.uvl_outside.specs.Faults.{Counts}
 use Rattle.uvl_outside.specs.Files.{Contents}
+use Rattle.uvl_outside.specs.Sink.{AppendsFront, put_failed}
+use Rattle.uvl_outside.specs.declared.sink.PutFault.{PutFault}
+use Rattle.uvl_outside.specs.declared.sink.PutFault.TheVariants as putting
 use Rattle.uvl_base.specs.declared.fault.FaultKind.{FaultKind}
 use Rattle.uvl_base.specs.declared.place.Place.{Place}
+use Rattle.uvl_lines.specs.declared.ending.Ending.{Ending}
+use Rattle.uvl_lines.specs.declared.ending.Ending.TheVariants as lines
+use Rattle.uvl_lines.specs.Endings.{AnswersLines, ending_of_put, is_input_failed, is_fetch_failed, is_write_failed}
+use Rattle.uvl_compile.specs.Nodes.{nodes_per_feature, most_nodes_of}
+use Rattle.uvl_model.specs.Family.{Family}
+use Rattle.uvl_model.specs.Products.{Products, ProductsOfTree}
+use Rattle.uvl_model.specs.Rows.{Rows}
 use Rattle.uvl_model.specs.Tree.{Tree}
+use Rattle.uvl_words.specs.CommandLine.{request_of, usage_line}
 use Rattle.uvl_run.specs.declared.status.Status.{Status}
-use Rattle.uvl_run.specs.declared.status.Status.TheVariants.{Done, Usage, Model, ReadFault, WriteFault, OverBudget, NoMemory, TooMuchInput}
+use Rattle.uvl_run.specs.declared.status.Status.TheVariants.{Usage, Model, OverBudget}
 use Rattle.uvl_run.specs.Budget.{nodes_for, budget_line}
-use Rattle.uvl_run.specs.CommandLine.{Request, request_of, usage_line}
 use Rattle.uvl_run.specs.Loading.{LoadsModel, LoadsFault, fault_in}
-use Rattle.uvl_run.specs.Run.{RunWrites, IsFrontOfRun, IsFaulty, IsOverBudget, IsAccepted, EndsRun, Answers, fault_line}
-use Rattle.uvl_run.specs.Script.{AnswersModel, AnswersScript, EndsScript}
-use Rattle.uvl_run.specs.Status.{PutsLast}
-use Rattle.uvl_run.proofs.Told.{appends_nothing, consumes_nothing, some_of_front}
+use Rattle.uvl_run.specs.Outside.{Object, Outside, the_files, the_input, the_output, has_failed, seen}
+use Rattle.uvl_run.specs.Replies.{Reply, Fetches}
+use Rattle.uvl_run.specs.Run.{NamesModel, IsFaulty, IsOverBudget, IsAccepted, SaysLine, EndsRun, Answers, fault_line, words_refused, model_faulty, over_budget, model_unread, starved, script_answered}
+use Rattle.uvl_run.specs.State.{State, start_of, IsStart}
+use Rattle.uvl_run.specs.Status.{Outcome, outcome_of}
+use Rattle.uvl_run.specs.steps.Says.{WritesLine}
+use Rattle.uvl_run.proofs.Told.{appends_nothing, consumes_nothing, take-IsFrontOf}
 
--- a run that writes one text, whole or a front of it, and takes nothing of its input
-says_once : (words : List (List ℕ)) (told : Option Contents) (input w w' : Option (List ℕ)) (text : List ℕ) (whole status : Status) → RunWrites words told input [] text → EndsRun words told input [] text whole → PutsLast w w' text whole status → Answers words told input input w w' status
-says_once words told input w w' text whole status writes ended (inl put) = record {
-  taken = [];
-  said = text;
-  moved = consumes_nothing input;
-  wrote = put.1;
-  ends = let P : Status → Type 0 = λ s. EndsRun words told input [] text s in subst P (sym put.0) ended;
-}
-says_once words told input w w' text whole status writes ended (inr put) =
-    let some = some_of_front w w' text put.1 in
-    let front : IsFrontOfRun words told input [] some.0 = (text, writes, some.1) in
-    let P : Status → Type 0 = λ s. EndsRun words told input [] some.0 s in
-    record {
-      taken = [];
-      said = some.0;
-      moved = consumes_nothing input;
-      wrote = some.2;
-      ends = elim put.0 [ inl is ↦ subst P (sym is) front | inr is ↦ subst P (sym is) (inr front) ];
-    }
+-- ---- counts
 
--- the words were refused
-pub refused : (words : List (List ℕ)) (told : Option Contents) (input w w' : Option (List ℕ)) (status : Status) → request_of words ≡ None → PutsLast w w' usage_line Usage status → Answers words told input input w w' status
-refused words told input w w' status none put =
-    says_once words told input w w' usage_line Usage status (inl (none, refl, refl)) (none, refl, refl) put
+-- a count that nothing was done to
+pub uncounted : (n : ℕ) → Counts n n false
+uncounted n = record { never_falls = omega arith; rises = tt; stays = refl }
 
--- the model has a fault
-pub faulty : (words : List (List ℕ)) (told : Option Contents) (input w w' : Option (List ℕ)) (status : Status) (request : Request) (place : Place) (kind : FaultKind) → request_of words ≡ Some request → LoadsFault told request.path place kind → PutsLast w w' (fault_line (fault_in request.path place kind)) Model status → Answers words told input input w w' status
-faulty words told input w w' status request place kind named fault put =
-    let is : IsFaulty words told request place kind = record { named = named; faulty = fault } in
-    says_once words told input w w' (fault_line (fault_in request.path place kind)) Model status (inr (inl (request, place, kind, is, refl, refl))) (request, place, kind, is, refl, refl) put
+uncounted_by : (n : ℕ) (failed : Bool) → IsFalse failed → Counts n n failed
+uncounted_by n failed is = let P : Bool → Type 0 = λ b. Counts n n b in subst P (sym is) (uncounted n)
 
--- the budget is too small for the model
-over_budget : (words : List (List ℕ)) (told : Option Contents) (input w w' : Option (List ℕ)) (status : Status) (request : Request) (tree : Tree) → request_of words ≡ Some request → LoadsModel told request.path tree → request.budget < nodes_for tree → PutsLast w w' budget_line OverBudget status → Answers words told input input w w' status
-over_budget words told input w w' status request tree named loads short put =
-    let is : IsOverBudget words told tree = record { request = request; named = named; loads = loads; short = short } in
-    says_once words told input w w' budget_line OverBudget status (inr (inr (inl (tree, is, refl, refl)))) (tree, is, refl, refl) put
+-- the object that an ending names
+fetch_failed_is : (ending : Ending) → is_fetch_failed ending ≡ has_failed the_files (outcome_of ending).failed
+fetch_failed_is lines.Done = refl
+fetch_failed_is lines.TooMuch = refl
+fetch_failed_is lines.InputFailed = refl
+fetch_failed_is lines.FetchFailed = refl
+fetch_failed_is lines.WriteFailed = refl
+fetch_failed_is lines.NoMemory = refl
 
-script_ends : (words : List (List ℕ)) (told : Option Contents) (input : Option (List ℕ)) (taken said : List ℕ) (tree : Tree) (status : Status) → IsAccepted words told tree → EndsScript tree input taken said status → EndsRun words told input taken said status
-script_ends words told input taken said tree Done accepted ended = (tree, accepted, ended)
-script_ends words told input taken said tree Usage accepted ended = absurd ended
-script_ends words told input taken said tree Model accepted ended = absurd ended
-script_ends words told input taken said tree ReadFault accepted ended = inr (tree, accepted, ended)
-script_ends words told input taken said tree WriteFault accepted ended = (ended.0, inr (inr (inr (tree, accepted, ended.1))), ended.2)
-script_ends words told input taken said tree OverBudget accepted ended = absurd ended
-script_ends words told input taken said tree NoMemory accepted ended = inr (ended.0, inr (inr (inr (tree, accepted, ended.1))), ended.2)
-script_ends words told input taken said tree TooMuchInput accepted ended = (tree, accepted, ended)
+input_failed_is : (ending : Ending) → is_input_failed ending ≡ has_failed the_input (outcome_of ending).failed
+input_failed_is lines.Done = refl
+input_failed_is lines.TooMuch = refl
+input_failed_is lines.InputFailed = refl
+input_failed_is lines.FetchFailed = refl
+input_failed_is lines.WriteFailed = refl
+input_failed_is lines.NoMemory = refl
 
--- the script was answered
-answered : (words : List (List ℕ)) (told : Option Contents) (input left w w' : Option (List ℕ)) (status : Status) (request : Request) (tree : Tree) → request_of words ≡ Some request → LoadsModel told request.path tree → nodes_for tree ≤ request.budget → AnswersScript tree input left w w' status → Answers words told input left w w' status
-answered words told input left w w' status request tree named loads enough script = record {
-  taken = script.taken;
-  said = script.said;
-  moved = script.moved;
-  wrote = script.wrote;
-  ends = script_ends words told input script.taken script.said tree status record { request = request; named = named; loads = loads; enough = enough } script.ends;
-}
+write_failed_is : (ending : Ending) → is_write_failed ending ≡ has_failed the_output (outcome_of ending).failed
+write_failed_is lines.Done = refl
+write_failed_is lines.TooMuch = refl
+write_failed_is lines.InputFailed = refl
+write_failed_is lines.FetchFailed = refl
+write_failed_is lines.WriteFailed = refl
+write_failed_is lines.NoMemory = refl
 
--- the model was loaded
-pub loaded : (words : List (List ℕ)) (told : Option Contents) (input left w w' : Option (List ℕ)) (status : Status) (request : Request) (tree : Tree) → request_of words ≡ Some request → LoadsModel told request.path tree → AnswersModel tree request.budget input left w w' status → Answers words told input left w w' status
-loaded words told input left w w' status request tree named loads (inl whole) = answered words told input left w w' status request tree named loads whole.0 whole.1
-loaded words told input left w w' status request tree named loads (inr small) =
-    let P : Option (List ℕ) → Type 0 = λ t. Answers words told input t w w' status in
-    subst P (sym small.1) (over_budget words told input w w' status request tree named loads small.0 small.2)
+-- a fault of the sink, as an ending names it
+pub put_failed_is : (fault : PutFault) (before now : ℕ) → Counts before now (put_failed {T = ⊤} (Err fault)) → Counts before now (has_failed the_output (outcome_of (ending_of_put fault)).failed)
+put_failed_is putting.Failed before now counted = counted
+put_failed_is putting.OutOfMemory before now counted = counted
 
--- the host failed while the model was read
-pub host_failed : (words : List (List ℕ)) (told : Option Contents) (input w : Option (List ℕ)) (request : Request) → request_of words ≡ Some request → Answers words told input input w w ReadFault
-host_failed words told input w request named = record {
-  taken = [];
+-- ---- outcomes
+
+abbrev pub outcome : Status → Option Object → Outcome
+outcome status failed = record { status = status; failed = failed }
+
+whole_outcome : (ending : Ending) → outcome (outcome_of ending).status (outcome_of ending).failed ≡ outcome_of ending
+whole_outcome lines.Done = refl
+whole_outcome lines.TooMuch = refl
+whole_outcome lines.InputFailed = refl
+whole_outcome lines.FetchFailed = refl
+whole_outcome lines.WriteFailed = refl
+whole_outcome lines.NoMemory = refl
+
+-- an outcome with the status of an ending, and with the object that it names
+pub outcome_is : (ending : Ending) (status : Status) → status ≡ (outcome_of ending).status → outcome status (outcome_of ending).failed ≡ outcome_of ending
+outcome_is ending status is = ap (λ (s : Status). outcome s (outcome_of ending).failed) is ∙ whole_outcome ending
+
+-- ---- the one line of a run
+
+module _ (line : List ℕ) (whole : Status) (before now : Option (List ℕ)) (faults_before faults : ℕ) where
+  -- it was written
+  pub written_whole : Appends before now line → Counts faults_before faults false → WritesLine line whole before now faults_before faults whole
+  written_whole wrote counted = record {
+    said = line;
+    failed = None;
+    wrote = wrote;
+    says = inl (refl, refl);
+    output = counted;
+    no_files = refl;
+    no_input = refl;
+  }
+
+  -- writing it failed
+  pub written_partly : (fault : PutFault) (status : Status) → status ≡ (outcome_of (ending_of_put fault)).status → AppendsFront before now line
+      → Counts faults_before faults (has_failed the_output (outcome_of (ending_of_put fault)).failed) → WritesLine line whole before now faults_before faults status
+  written_partly putting.Failed status is wrote counted = record {
+    said = take wrote.0 line;
+    failed = Some the_output;
+    wrote = wrote.1;
+    says = inr (putting.Failed, take-IsFrontOf wrote.0 line, outcome_is lines.WriteFailed status is);
+    output = counted;
+    no_files = refl;
+    no_input = refl;
+  }
+  written_partly putting.OutOfMemory status is wrote counted = record {
+    said = take wrote.0 line;
+    failed = None;
+    wrote = wrote.1;
+    says = inr (putting.OutOfMemory, take-IsFrontOf wrote.0 line, outcome_is lines.NoMemory status is);
+    output = counted;
+    no_files = refl;
+    no_input = refl;
+  }
+
+-- memory was wanting before it was there
+pub unwritten : (line : List ℕ) (whole status : Status) (written : Option (List ℕ)) (faults : ℕ) → status ≡ (outcome_of lines.NoMemory).status → WritesLine line whole written written faults faults status
+unwritten line whole status written faults is = record {
   said = [];
-  moved = consumes_nothing input;
-  wrote = appends_nothing w;
-  ends = inl (request, named, (refl, refl));
+  failed = None;
+  wrote = appends_nothing written;
+  says = inr (putting.OutOfMemory, (line, refl), outcome_is lines.NoMemory status is);
+  output = uncounted faults;
+  no_files = refl;
+  no_input = refl;
 }
 
--- memory was wanting before anything of the script was taken
-pub starved_script : (tree : Tree) (input w : Option (List ℕ)) → AnswersScript tree input input w w NoMemory
-starved_script tree input w = record {
-  taken = [];
-  said = [];
-  moved = consumes_nothing input;
-  wrote = appends_nothing w;
-  ends = ([], inl refl, ([], refl));
-}
+-- ---- the ends
 
--- memory was wanting before anything was taken or said
-pub starved : (words : List (List ℕ)) (told : Option Contents) (input w : Option (List ℕ)) → Answers words told input input w w NoMemory
-starved words told input w = record {
-  taken = [];
-  said = [];
-  moved = consumes_nothing input;
-  wrote = appends_nothing w;
-  ends = inl (refl, refl);
-}
+module _ (words : List (List ℕ)) (told : Option Contents) (left w w' : Option (List ℕ)) (files input output output' : ℕ) where
+  -- a run that says one line, and takes nothing of its input
+  says_once : (line : List ℕ) (whole status : Status) → ((said : List ℕ) (o : Outcome) → SaysLine line whole said o → EndsRun words told left [] said o)
+      → WritesLine line whole w w' output output' status → Answers words told (seen left w files input output) (seen left w' files input output') status
+  says_once line whole status ends writes = record {
+    taken = [];
+    said = writes.said;
+    failed = writes.failed;
+    moved = consumes_nothing left;
+    wrote = writes.wrote;
+    ends = ends writes.said (outcome status writes.failed) writes.says;
+    counted = record {
+      files = uncounted_by files (has_failed the_files writes.failed) writes.no_files;
+      input = uncounted_by input (has_failed the_input writes.failed) writes.no_input;
+      output = writes.output;
+    };
+  }
+
+  -- the words were refused
+  pub refused : (status : Status) → request_of words ≡ None → WritesLine usage_line Usage w w' output output' status
+      → Answers words told (seen left w files input output) (seen left w' files input output') status
+  refused status none = says_once usage_line Usage status (λ said o says. words_refused none refl says)
+
+  -- the model has a fault
+  pub faulty : (path : List ℕ) (budget : ℕ) (place : Place) (kind : FaultKind) (status : Status) → NamesModel words path budget → LoadsFault told path place kind
+      → WritesLine (fault_line (fault_in path place kind)) Model w w' output output' status → Answers words told (seen left w files input output) (seen left w' files input output') status
+  faulty path budget place kind status named fault =
+      let is : IsFaulty words told path place kind = record { budget = budget; named = named; faulty = fault } in
+      says_once (fault_line (fault_in path place kind)) Model status (λ said o says. model_faulty path place kind is refl says)
+
+  -- the budget is too small for the model
+  pub short : (path : List ℕ) (budget : ℕ) (tree : Tree) (status : Status) → NamesModel words path budget → LoadsModel told path tree → budget < nodes_for tree
+      → WritesLine budget_line OverBudget w w' output output' status → Answers words told (seen left w files input output) (seen left w' files input output') status
+  short path budget tree status named loads few =
+      let is : IsOverBudget words told tree budget = record { path = path; named = named; loads = loads; short = few } in
+      says_once budget_line OverBudget status (λ said o says. over_budget tree budget is refl says)
+
+module _ (words : List (List ℕ)) (told : Option Contents) (left w : Option (List ℕ)) (files files' input output : ℕ) where
+  -- the host failed while the model was read
+  pub unread : (path : List ℕ) (budget : ℕ) (status : Status) → NamesModel words path budget → status ≡ (outcome_of lines.FetchFailed).status → Counts files files' true
+      → Answers words told (seen left w files input output) (seen left w files' input output) status
+  unread path budget status named is counted = record {
+    taken = [];
+    said = [];
+    failed = Some the_files;
+    moved = consumes_nothing left;
+    wrote = appends_nothing w;
+    ends = model_unread path budget named (refl, refl) (outcome_is lines.FetchFailed status is);
+    counted = record { files = counted; input = uncounted input; output = uncounted output };
+  }
+
+module _ (words : List (List ℕ)) (told : Option Contents) (left w : Option (List ℕ)) (files input output : ℕ) where
+  -- memory was wanting before anything was taken or said
+  pub no_memory : (status : Status) → status ≡ (outcome_of lines.NoMemory).status → Answers words told (seen left w files input output) (seen left w files input output) status
+  no_memory status is = record {
+    taken = [];
+    said = [];
+    failed = None;
+    moved = consumes_nothing left;
+    wrote = appends_nothing w;
+    ends = starved (refl, refl) (outcome_is lines.NoMemory status is);
+    counted = record { files = uncounted files; input = uncounted input; output = uncounted output };
+  }
+
+counted_as : (before now : ℕ) (a b : Bool) → a ≡ b → Counts before now a → Counts before now b
+counted_as before now a b same counted = let P : Bool → Type 0 = λ failed. Counts before now failed in subst P same counted
+
+module _ (words : List (List ℕ)) (told : Option Contents) (left left' w w' : Option (List ℕ)) (files files' input input' output output' : ℕ) where
+  -- the script was answered
+  pub answered : (path : List ℕ) (budget : ℕ) (tree : Tree) (start : State) (ending : Ending) (status : Status) → NamesModel words path budget → LoadsModel told path tree → nodes_for tree ≤ budget
+      → IsStart tree budget start → AnswersLines Reply Fetches start left left' w w' ending → status ≡ (outcome_of ending).status
+      → Counts files files' (is_fetch_failed ending) → Counts input input' (is_input_failed ending) → Counts output output' (is_write_failed ending)
+      → Answers words told (seen left w files input output) (seen left' w' files' input' output') status
+  answered path budget tree start ending status named loads enough starts run is files_counted input_counted output_counted =
+      let accepted : IsAccepted words told tree budget = record { path = path; named = named; loads = loads; enough = enough } in
+      record {
+        taken = run.taken;
+        said = run.said;
+        failed = (outcome_of ending).failed;
+        moved = run.moved;
+        wrote = run.wrote;
+        ends = script_answered tree budget start ending accepted starts run.ends (outcome_is ending status is);
+        counted = record {
+          files = counted_as files files' _ _ (fetch_failed_is ending) files_counted;
+          input = counted_as input input' _ _ (input_failed_is ending) input_counted;
+          output = counted_as output output' _ _ (write_failed_is ending) output_counted;
+        };
+      }
+
+-- what is answered from the moment on at which a model was loaded is answered from before, where no fault was counted
+pub from_loaded : (words : List (List ℕ)) (told told' : Option Contents) (left w : Option (List ℕ)) (files files' input output : ℕ) (now : Outside) (status : Status) → told' ≡ told → files' ≡ files
+    → Answers words told' (seen left w files' input output) now status → Answers words told (seen left w files input output) now status
+from_loaded words told told' left w files files' input output now status same_told same_files answers =
+    let P : ℕ → Type 0 = λ n. Answers words told' (seen left w n input output) now status in
+    let Q : Option Contents → Type 0 = λ t. Answers words t (seen left w files input output) now status in
+    subst Q same_told (subst P same_files answers)
+
+-- ---- the model
+
+-- the model of a tree wants as many nodes as the tree
+pub nodes_of : (rows : Rows) (tree : Tree) → Products rows ≡ ProductsOfTree tree → most_nodes_of rows ≡ nodes_for tree
+nodes_of rows tree same =
+    ap (λ (n : ℕ). nodes_per_feature * n) (sym (length-map rows.features (λ row. row.name)) ∙ ap (λ (f : Family). length f.names) same)
+
+-- and its state is one in front of the first line
+pub starts_with : (rows : Rows) (tree : Tree) (budget : ℕ) (state : State) → Products rows ≡ ProductsOfTree tree → state ≡ start_of rows budget → IsStart tree budget state
+starts_with rows tree budget state same is = record { products = ap (λ (s : State). Products s.main) is ∙ same; table = ap (λ (s : State). s.budget) is }

@@ -1,62 +1,89 @@
 -- When each status comes, in both directions.
-use Rattle.std.specs.Prelude.{◌≡◌, ℕ, ◌<◌, ◌≤◌, ◌⊎◌, List, [], ◌∷◌, length, Option, Some, IfSome}
+use Rattle.std.specs.Prelude.{◌≡◌, ℕ, ◌<◌, ◌≤◌, ◌⊎◌, List, [], ◌∷◌, length, Option, Some, None, IfSome}
 use Rattle.uvl_outside.specs.Files.{Contents}
 use Rattle.uvl_base.specs.declared.fault.FaultKind.{FaultKind}
 use Rattle.uvl_base.specs.declared.place.Place.{Place}
+use Rattle.uvl_base.specs.Limits.{most_script_bytes}
 use Rattle.uvl_model.specs.Tree.{Tree}
 use Rattle.uvl_run.specs.declared.status.Status.{Status}
 use Rattle.uvl_run.specs.declared.status.Status.TheVariants.{Done, Usage, Model, ReadFault, WriteFault, OverBudget, NoMemory, TooMuchInput}
 use Rattle.uvl_run.specs.Budget.{nodes_for}
-use Rattle.uvl_run.specs.CommandLine.{Request, request_of}
 use Rattle.uvl_run.specs.Loading.{IsModelOf, HasFault}
-use Rattle.uvl_run.specs.Run.{IsRefused, IsAccepted, IsOverBudget, IsFaulty}
-use Rattle.uvl_run.specs.Script.{most_script_bytes}
+use Rattle.uvl_run.specs.Outside.{Object, the_files, the_input, the_output, Outside, AreCounted}
+use Rattle.uvl_run.specs.Run.{NamesModel, IsRefused, IsAccepted, IsOverBudget, IsFaulty}
+use Rattle.uvl_run.specs.Status.{fault_status}
 
--- the status is one of the list
-abbrev pub IsOneOf : Status → List Status → Type 0
-IsOneOf status [] = ⊥
-IsOneOf status (s ∷ ss) = (status ≡ s) ⊎ IsOneOf status ss
+-- ---- the cause of a status
 
--- The words name a model that is told to be that of some tree, and the budget suffices.
+-- the words name a model, and the budget suffices
+abbrev pub HasAcceptedModel : List (List ℕ) → Option Contents → Type 0
+HasAcceptedModel words told = (tree : Tree) × (budget : ℕ) × IsAccepted words told tree budget
+
+-- what is known where a run has this status; want of memory has no cause
+abbrev pub HasCause : List (List ℕ) → Option Contents → Outside → Outside → Status → Type 0
+HasCause words told before now Done =
+    HasAcceptedModel words told × IfSome before.left (λ bytes. length bytes ≤ most_script_bytes)
+    × AreCounted None before now
+HasCause words told before now Usage = IsRefused words × AreCounted None before now
+HasCause words told before now Model =
+    (path : List ℕ) × (place : Place) × (kind : FaultKind) × IsFaulty words told path place kind
+    × AreCounted None before now
+HasCause words told before now ReadFault =
+    AreCounted (Some the_files) before now ⊎ AreCounted (Some the_input) before now
+HasCause words told before now WriteFault = AreCounted (Some the_output) before now
+HasCause words told before now OverBudget =
+    (tree : Tree) × (budget : ℕ) × IsOverBudget words told tree budget × AreCounted None before now
+HasCause words told before now NoMemory = AreCounted None before now
+HasCause words told before now TooMuchInput =
+    HasAcceptedModel words told × IfSome before.left (λ bytes. most_script_bytes < length bytes)
+    × AreCounted None before now
+
+-- ---- where a status comes
+
+-- The words name a model that is told to be that of some tree, and give a budget.
 pub record HasModel (words : List (List ℕ)) (told : Option Contents) : Type 0 where
-  pub request : Request
-  pub named : request_of words ≡ Some request
+  pub path : List ℕ
+  pub budget : ℕ
+  pub named : NamesModel words path budget
   pub contents : Contents
   pub tells : told ≡ Some contents
   pub tree : Tree
-  pub is : IsModelOf (contents request.path) tree
-  pub enough : nodes_for tree ≤ request.budget
-
--- The words name a model that is told to be that of some tree, and the budget is too small.
-pub record HasModelOverBudget (words : List (List ℕ)) (told : Option Contents) : Type 0 where
-  pub request : Request
-  pub named : request_of words ≡ Some request
-  pub contents : Contents
-  pub tells : told ≡ Some contents
-  pub tree : Tree
-  pub is : IsModelOf (contents request.path) tree
-  pub short : request.budget < nodes_for tree
+  pub is : IsModelOf (contents path) tree
 
 -- The words name a model that is told to have a fault.
 pub record HasFaultyModel (words : List (List ℕ)) (told : Option Contents) : Type 0 where
-  pub request : Request
-  pub named : request_of words ≡ Some request
+  pub path : List ℕ
+  pub budget : ℕ
+  pub named : NamesModel words path budget
   pub contents : Contents
   pub tells : told ≡ Some contents
   pub place : Place
   pub kind : FaultKind
-  pub is : HasFault (contents request.path) place kind
+  pub is : HasFault (contents path) place kind
 
--- Each status of a run that ends by itself comes only where its cause is, and where its cause is it comes
--- unless a fault that was counted or want of memory is in its way.
-pub record IsExact (words : List (List ℕ)) (told : Option Contents) (input : Option (List ℕ)) (status : Status) : Type 0 where
-  pub usage_only : status ≡ Usage → IsRefused words
-  pub usage_where : IsRefused words → IsOneOf status (Usage ∷ WriteFault ∷ NoMemory ∷ [])
-  pub model_only : status ≡ Model → (request : Request) × (place : Place) × (kind : FaultKind) × IsFaulty words told request place kind
-  pub model_where : HasFaultyModel words told → IsOneOf status (Model ∷ ReadFault ∷ WriteFault ∷ NoMemory ∷ [])
-  pub over_budget_only : status ≡ OverBudget → (tree : Tree) × IsOverBudget words told tree
-  pub over_budget_where : HasModelOverBudget words told → IsOneOf status (OverBudget ∷ ReadFault ∷ WriteFault ∷ NoMemory ∷ [])
-  pub done_only : status ≡ Done → ((tree : Tree) × IsAccepted words told tree) × IfSome input (λ bytes. length bytes ≤ most_script_bytes)
-  pub done_where : HasModel words told → (bytes : List ℕ) → input ≡ Some bytes → length bytes ≤ most_script_bytes → IsOneOf status (Done ∷ ReadFault ∷ WriteFault ∷ NoMemory ∷ [])
-  pub too_much_only : status ≡ TooMuchInput → ((tree : Tree) × IsAccepted words told tree) × IfSome input (λ bytes. most_script_bytes < length bytes)
-  pub too_much_where : HasModel words told → (bytes : List ℕ) → input ≡ Some bytes → most_script_bytes < length bytes → IsOneOf status (TooMuchInput ∷ ReadFault ∷ WriteFault ∷ NoMemory ∷ [])
+-- one of these objects failed, which was counted, and the status is that of its fault
+abbrev pub HasFailed : List Object → Outside → Outside → Status → Type 0
+HasFailed [] before now status = ⊥
+HasFailed (object ∷ objects) before now status =
+    ((status ≡ fault_status object) × AreCounted (Some object) before now) ⊎ HasFailed objects before now status
+
+-- the status is this one, unless memory is wanting, or one of these objects failed before it came to that
+abbrev pub ComesUnless : List Object → Outside → Outside → Status → Status → Type 0
+ComesUnless objects before now expected status =
+    (status ≡ expected) ⊎ (status ≡ NoMemory) ⊎ HasFailed objects before now status
+
+-- Each status comes only where its cause is. Where the cause of one is with which a run ends by itself, that status
+-- comes, unless a counted fault or want of memory is in its way; a fault of the input is in the way of no model.
+pub record IsExact (words : List (List ℕ)) (told : Option Contents) (before now : Outside) (status : Status) :
+    Type 0 where
+  pub cause : HasCause words told before now status
+  pub usage : IsRefused words → ComesUnless (the_output ∷ []) before now Usage status
+  pub model : HasFaultyModel words told → ComesUnless (the_files ∷ the_output ∷ []) before now Model status
+  pub over_budget : (model : HasModel words told) → model.budget < nodes_for model.tree
+      → ComesUnless (the_files ∷ the_output ∷ []) before now OverBudget status
+  pub done : (model : HasModel words told) → nodes_for model.tree ≤ model.budget
+      → (bytes : List ℕ) → before.left ≡ Some bytes → length bytes ≤ most_script_bytes
+      → ComesUnless (the_files ∷ the_input ∷ the_output ∷ []) before now Done status
+  pub too_much_input : (model : HasModel words told) → nodes_for model.tree ≤ model.budget
+      → (bytes : List ℕ) → before.left ≡ Some bytes → most_script_bytes < length bytes
+      → ComesUnless (the_files ∷ the_input ∷ the_output ∷ []) before now TooMuchInput status

@@ -1,19 +1,9 @@
--- What holds of all scripts and of all files.
+-- What holds of all files.
 use Rattle.std.specs.Prelude.{◌≡◌, ℕ, ◌⊎◌, List, Option}
 use Rattle.uvl_base.specs.declared.fault.FaultKind.{FaultKind}
 use Rattle.uvl_base.specs.declared.place.Place.{Place}
 use Rattle.uvl_model.specs.Tree.{Tree}
-use Rattle.uvl_run.specs.Lines.{IsCut, ended_lines, open_line}
 use Rattle.uvl_run.specs.Loading.{IsModelOf, HasFault}
-
--- the ended lines of any bytes and the line that they leave open are a cut of them
-abbrev pub EachScriptHasACut : Type 0
-EachScriptHasACut = (bytes : List ℕ) → IsCut bytes (ended_lines bytes) (open_line bytes)
-
--- there is no other cut
-abbrev pub CutsAreEqual : Type 0
-CutsAreEqual =
-    (bytes : List ℕ) (lines : List (List ℕ)) (unended : List ℕ) → IsCut bytes lines unended → (lines ≡ ended_lines bytes) × (unended ≡ open_line bytes)
 
 -- what is at a path is the model of a tree, of that tree alone, and has no fault
 pub record HasOneTree (content : Option (List ℕ)) : Type 0 where

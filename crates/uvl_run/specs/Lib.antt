@@ -1,18 +1,16 @@
+-- Words for a run of the program: what is handed in, the state, the replies, the statuses, and what a run says.
 pub mod Budget
-pub mod CommandLine
-pub mod CommandLineForms
-pub mod CommandLineRules
-pub mod Compiled
 pub mod Exactly
-pub mod Examples
 pub mod InMemory
 pub mod Laws
-pub mod Lines
 pub mod LoadFaults
 pub mod Loading
+pub mod Outside
+pub mod Products
 pub mod Replies
-pub mod ReplyTexts
 pub mod RuleLists
 pub mod Run
-pub mod Script
+pub mod State
 pub mod Status
+pub mod YesOrNo
+pub mod steps

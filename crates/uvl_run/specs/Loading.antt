@@ -6,19 +6,18 @@ use Rattle.uvl_base.specs.declared.fault.FaultKind.{FaultKind}
 use Rattle.uvl_base.specs.declared.fault.FaultKind.TheVariants.{Absent, TooLong, NotUtf8, NotBuilt}
 use Rattle.uvl_base.specs.declared.fault.ModelFault.{ModelFault}
 use Rattle.uvl_base.specs.declared.place.Place.{Place}
+use Rattle.uvl_base.specs.Limits.{most_file_bytes}
 use Rattle.uvl_lexer.specs.declared.token.Token.{Token}
 use Rattle.uvl_lexer.specs.Layout.{Tokens, Stops}
 use Rattle.uvl_ast.specs.declared.file.File.{File}
 use Rattle.uvl_parser.specs.Parsing.{IsParsedAs, IsRefusedAt}
+use Rattle.uvl_model.specs.Products.{Products, ProductsOfTree}
+use Rattle.uvl_model.specs.Rows.{Rows}
 use Rattle.uvl_model.specs.Tree.{Tree, names_of}
 use Rattle.uvl_resolve.specs.Built.{AreModelNames}
 use Rattle.uvl_resolve.specs.Causes.{HasCause}
 use Rattle.uvl_resolve.specs.TreeOf.{IsTreeOf}
 use Rattle.uvl_run.specs.RuleLists.{has_rule_list}
-
--- the most bytes of one file
-abbrev pub most_file_bytes : ℕ
-most_file_bytes = 8388608
 
 -- ---- what bytes say
 
@@ -56,14 +55,17 @@ abbrev pub IsOfWholeFile : FaultKind → Place → FaultKind → Type 0
 IsOfWholeFile fault place kind = (place ≡ first_place) × (kind ≡ fault)
 
 -- What is wrong with the bytes of a file: they are no UTF-8; or else their text stops; or else its tokens are refused;
--- or else there is a cause for which no model is made of the file, or a list of rules in its braces, of which the syntax
--- has no trace where the list is empty.
+-- or else there is a cause for which no model is made of the file, or a list of rules in its braces, of which the
+-- syntax has no trace where the list is empty.
 pub data HasFaultIn (bytes : List ℕ) (place : Place) (kind : FaultKind) : Type 0 where
   no_text : (IsUtf8 bytes → ⊥) → IsOfWholeFile NotUtf8 place kind → HasFaultIn bytes place kind
   no_tokens : IsUtf8 bytes → Stops (chars bytes) place kind → HasFaultIn bytes place kind
-  no_file : (tokens : List Token) → AreTokensOf bytes tokens → IsRefusedAt tokens place kind → HasFaultIn bytes place kind
-  no_model : (file : File) → IsFileOf bytes file → HasCause file → IsOfWholeFile NotBuilt place kind → HasFaultIn bytes place kind
-  rule_list : (file : File) (written : IsFileOf bytes file) → has_rule_list written.tokens ≡ true → IsOfWholeFile NotBuilt place kind → HasFaultIn bytes place kind
+  no_file : (tokens : List Token) → AreTokensOf bytes tokens → IsRefusedAt tokens place kind
+      → HasFaultIn bytes place kind
+  no_model : (file : File) → IsFileOf bytes file → HasCause file → IsOfWholeFile NotBuilt place kind
+      → HasFaultIn bytes place kind
+  rule_list : (file : File) (written : IsFileOf bytes file) → has_rule_list written.tokens ≡ true
+      → IsOfWholeFile NotBuilt place kind → HasFaultIn bytes place kind
 
 -- ---- what is at a path
 
@@ -93,6 +95,14 @@ LoadsModel told path tree = (content : Option (List ℕ)) × Tells told path con
 -- what is told to be at the path has the fault
 abbrev pub LoadsFault : Option Contents → List ℕ → Place → FaultKind → Type 0
 LoadsFault told path place kind = IfSome told (λ contents. HasFault (contents path) place kind)
+
+-- the rows are those of the model at the path: their products are those of its tree
+abbrev pub IsLoaded : Option Contents → List ℕ → Rows → Type 0
+IsLoaded told path rows = (tree : Tree) × LoadsModel told path tree × (Products rows ≡ ProductsOfTree tree)
+
+-- the rows are those of the model that the bytes say
+abbrev pub SaysModel : List ℕ → Rows → Type 0
+SaysModel bytes rows = (tree : Tree) × SaysTree bytes tree × (Products rows ≡ ProductsOfTree tree)
 
 -- a fault of the file at a path
 abbrev pub fault_in : List ℕ → Place → FaultKind → ModelFault

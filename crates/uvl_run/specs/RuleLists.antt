@@ -9,4 +9,5 @@ use Rattle.uvl_lexer.specs.Kinds.{begins, is_word, is_symbol}
 -- stand so in braces alone
 abbrev pub has_rule_list : List Token → Bool
 has_rule_list [] = false
-has_rule_list (token ∷ rest) = (is_word Constraints token.kind && begins (is_symbol LeftBracket) rest) || has_rule_list rest
+has_rule_list (token ∷ rest) =
+    (is_word Constraints token.kind && begins (is_symbol LeftBracket) rest) || has_rule_list rest

@@ -1,91 +1,105 @@
 -- What a run of the program writes, and how it ends, for every command line, every file and every script.
 use Rattle.std.specs.Prelude.{◌≡◌, ℕ, ◌<◌, ◌≤◌, ◌⊎◌, List, [], ◌++◌, Option, Some, None, codes}
-use Rattle.std.specs.Bool.{OnTrue, OnFalse}
 use Rattle.std.specs.Io.KnownBytes.{Consumes, Appends}
-use Rattle.uvl_outside.specs.Faults.{one_more}
 use Rattle.uvl_outside.specs.Files.{Contents}
+use Rattle.uvl_outside.specs.declared.sink.PutFault.{PutFault}
 use Rattle.uvl_base.specs.declared.fault.FaultKind.{FaultKind}
 use Rattle.uvl_base.specs.declared.fault.ModelFault.{ModelFault}
 use Rattle.uvl_base.specs.declared.place.Place.{Place}
 use Rattle.uvl_base.specs.Fault.{fault_text}
+use Rattle.uvl_lines.specs.declared.ending.Ending.{Ending}
+use Rattle.uvl_lines.specs.declared.ending.Ending.TheVariants.{FetchFailed, NoMemory}
+use Rattle.uvl_lines.specs.Endings.{Ends, ending_of_put}
+use Rattle.uvl_lines.specs.Runs.{IsFrontOf}
 use Rattle.uvl_model.specs.Tree.{Tree}
+use Rattle.uvl_words.specs.CommandLine.{for_model, request_of, usage_line}
 use Rattle.uvl_run.specs.declared.status.Status.{Status}
-use Rattle.uvl_run.specs.declared.status.Status.TheVariants.{Done, Usage, Model, ReadFault, WriteFault, OverBudget, NoMemory, TooMuchInput}
+use Rattle.uvl_run.specs.declared.status.Status.TheVariants.{Usage, Model, OverBudget}
 use Rattle.uvl_run.specs.Budget.{nodes_for, budget_line}
-use Rattle.uvl_run.specs.CommandLine.{Request, request_of, usage_line}
 use Rattle.uvl_run.specs.Loading.{LoadsModel, LoadsFault, fault_in}
-use Rattle.uvl_run.specs.Script.{IsFrontOf, AreRepliesTo, EndsScript}
-use Rattle.uvl_run.specs.Status.{is_read_fault}
+use Rattle.uvl_run.specs.Outside.{Object, Outside, AreCounted}
+use Rattle.uvl_run.specs.Replies.{Reply, Fetches}
+use Rattle.uvl_run.specs.State.{State, IsStart}
+use Rattle.uvl_run.specs.Status.{Outcome, unhindered, outcome_of}
 
--- the words name no model
+-- ---- what the words name
+
+-- the words are refused
 abbrev pub IsRefused : List (List ℕ) → Type 0
 IsRefused words = request_of words ≡ None
 
--- the words name a model, it is that of the tree, and the budget suffices
-pub record IsAccepted (words : List (List ℕ)) (told : Option Contents) (tree : Tree) : Type 0 where
-  pub request : Request
-  pub named : request_of words ≡ Some request
-  pub loads : LoadsModel told request.path tree
-  pub enough : nodes_for tree ≤ request.budget
+-- the words name the model at the path, with a table that may hold so many nodes
+abbrev pub NamesModel : List (List ℕ) → List ℕ → ℕ → Type 0
+NamesModel words path budget = request_of words ≡ Some (for_model path budget)
+
+-- the words name a model, it is that of the tree, and the budget, which is this one, suffices
+pub record IsAccepted (words : List (List ℕ)) (told : Option Contents) (tree : Tree) (budget : ℕ) : Type 0 where
+  pub path : List ℕ
+  pub named : NamesModel words path budget
+  pub loads : LoadsModel told path tree
+  pub enough : nodes_for tree ≤ budget
 
 -- the words name a model, it is that of the tree, and the budget is too small
-pub record IsOverBudget (words : List (List ℕ)) (told : Option Contents) (tree : Tree) : Type 0 where
-  pub request : Request
-  pub named : request_of words ≡ Some request
-  pub loads : LoadsModel told request.path tree
-  pub short : request.budget < nodes_for tree
+pub record IsOverBudget (words : List (List ℕ)) (told : Option Contents) (tree : Tree) (budget : ℕ) : Type 0 where
+  pub path : List ℕ
+  pub named : NamesModel words path budget
+  pub loads : LoadsModel told path tree
+  pub short : budget < nodes_for tree
 
--- the words name a model, and it has the fault there
-pub record IsFaulty (words : List (List ℕ)) (told : Option Contents) (request : Request) (place : Place) (kind : FaultKind) : Type 0 where
-  pub named : request_of words ≡ Some request
-  pub faulty : LoadsFault told request.path place kind
+-- the words name the model at the path, and it has the fault there
+pub record IsFaulty (words : List (List ℕ)) (told : Option Contents) (path : List ℕ) (place : Place) (kind : FaultKind) :
+    Type 0 where
+  pub budget : ℕ
+  pub named : NamesModel words path budget
+  pub faulty : LoadsFault told path place kind
 
 -- what is written of a fault of the model
 unfoldable pub fault_line : ModelFault → List ℕ
 fault_line fault = codes "fault " ++ fault_text fault ++ codes "\n"
 
--- what a run writes that has taken so much of its input, if nothing hinders it
-abbrev pub RunWrites : List (List ℕ) → Option Contents → Option (List ℕ) → List ℕ → List ℕ → Type 0
-RunWrites words told input taken text =
-    (IsRefused words × (taken ≡ []) × (text ≡ usage_line))
-    ⊎ ((request : Request) × (place : Place) × (kind : FaultKind) × IsFaulty words told request place kind × (taken ≡ [])
-    × (text ≡ fault_line (fault_in request.path place kind)))
-    ⊎ ((tree : Tree) × IsOverBudget words told tree × (taken ≡ []) × (text ≡ budget_line))
-    ⊎ ((tree : Tree) × IsAccepted words told tree × AreRepliesTo tree input taken text)
-
--- a front of that, none of it or all perhaps
-abbrev pub IsFrontOfRun : List (List ℕ) → Option Contents → Option (List ℕ) → List ℕ → List ℕ → Type 0
-IsFrontOfRun words told input taken said = (text : List ℕ) × RunWrites words told input taken text × IsFrontOf said text
+-- ---- how a run ends
 
 -- nothing was taken, and nothing was said
 abbrev pub IsUntouched : List ℕ → List ℕ → Type 0
 IsUntouched taken said = (taken ≡ []) × (said ≡ [])
 
--- what was said by a run that took these bytes of its input, by the status
-abbrev pub EndsRun : List (List ℕ) → Option Contents → Option (List ℕ) → List ℕ → List ℕ → Status → Type 0
-EndsRun words told input taken said Done = (tree : Tree) × IsAccepted words told tree × EndsScript tree input taken said Done
-EndsRun words told input taken said Usage = IsRefused words × (taken ≡ []) × (said ≡ usage_line)
-EndsRun words told input taken said Model =
-    (request : Request) × (place : Place) × (kind : FaultKind) × IsFaulty words told request place kind × (taken ≡ [])
-    × (said ≡ fault_line (fault_in request.path place kind))
-EndsRun words told input taken said ReadFault =
-    ((request : Request) × (request_of words ≡ Some request) × IsUntouched taken said)
-    ⊎ ((tree : Tree) × IsAccepted words told tree × EndsScript tree input taken said ReadFault)
-EndsRun words told input taken said WriteFault = IsFrontOfRun words told input taken said
-EndsRun words told input taken said OverBudget = (tree : Tree) × IsOverBudget words told tree × (taken ≡ []) × (said ≡ budget_line)
-EndsRun words told input taken said NoMemory = IsUntouched taken said ⊎ IsFrontOfRun words told input taken said
-EndsRun words told input taken said TooMuchInput = (tree : Tree) × IsAccepted words told tree × EndsScript tree input taken said TooMuchInput
+-- one line is the whole run, which then has this status; or only a front of it was said, as writing it failed
+abbrev pub SaysLine : List ℕ → Status → List ℕ → Outcome → Type 0
+SaysLine line status said outcome =
+    ((said ≡ line) × (outcome ≡ unhindered status))
+    ⊎ ((fault : PutFault) × IsFrontOf said line × (outcome ≡ outcome_of (ending_of_put fault)))
 
--- Some bytes were taken from the front of the input, and what was said was written behind what was
--- written before, where source and sink tell their bytes.
-pub record Answers (words : List (List ℕ)) (told : Option Contents) (input left : Option (List ℕ)) (written_before written : Option (List ℕ)) (status : Status) : Type 0 where
+-- What was said by a run that took these bytes of its input, and its outcome. Refused words give the usage line, a fault
+-- of the model its line, and so does a budget that is too small: nothing is taken of the input then. Else the lines of
+-- the script have their replies, as the ending of the script says.
+pub data EndsRun (words : List (List ℕ)) (told : Option Contents) (input : Option (List ℕ)) (taken said : List ℕ)
+    (outcome : Outcome) : Type 0 where
+  words_refused : IsRefused words → taken ≡ [] → SaysLine usage_line Usage said outcome
+      → EndsRun words told input taken said outcome
+  model_faulty : (path : List ℕ) (place : Place) (kind : FaultKind) → IsFaulty words told path place kind
+      → taken ≡ []
+      → SaysLine (fault_line (fault_in path place kind)) Model said outcome
+      → EndsRun words told input taken said outcome
+  over_budget : (tree : Tree) (budget : ℕ) → IsOverBudget words told tree budget → taken ≡ []
+      → SaysLine budget_line OverBudget said outcome → EndsRun words told input taken said outcome
+  -- the host failed while the model was read
+  model_unread : (path : List ℕ) (budget : ℕ) → NamesModel words path budget → IsUntouched taken said
+      → outcome ≡ outcome_of FetchFailed → EndsRun words told input taken said outcome
+  -- memory was wanting in front of the script
+  starved : IsUntouched taken said → outcome ≡ outcome_of NoMemory → EndsRun words told input taken said outcome
+  script_answered : (tree : Tree) (budget : ℕ) (start : State) (ending : Ending) → IsAccepted words told tree budget
+      → IsStart tree budget start → Ends Reply Fetches start input taken said ending → outcome ≡ outcome_of ending
+      → EndsRun words told input taken said outcome
+
+-- Some bytes were taken from the front of the input, and what was said was written behind what was written before, where
+-- source and sink tell their bytes. A fault ends the run: so the count of the object that failed rose, where one did, and
+-- no other.
+pub record Answers (words : List (List ℕ)) (told : Option Contents) (before now : Outside) (status : Status) :
+    Type 0 where
   pub taken : List ℕ
   pub said : List ℕ
-  pub moved : Consumes input left taken
-  pub wrote : Appends written_before written said
-  pub ends : EndsRun words told input taken said status
-
--- where reading failed, a count of faults of what is read rose; else both are as before
-pub record CountsReads (files_before files input_before input : ℕ) (status : Status) : Type 0 where
-  pub rises : OnTrue (is_read_fault status) ((one_more files_before ≤ files) ⊎ (one_more input_before ≤ input))
-  pub stays : OnFalse (is_read_fault status) ((files ≡ files_before) × (input ≡ input_before))
+  pub failed : Option Object
+  pub moved : Consumes before.left now.left taken
+  pub wrote : Appends before.written now.written said
+  pub ends : EndsRun words told before.left taken said (record { status = status; failed = failed })
+  pub counted : AreCounted failed before now

@@ -1,9 +1,8 @@
--- What the statuses of a run say: their numbers, and which of them are faults.
-use Rattle.std.specs.Prelude.{◌≡◌, ◌⊎◌, ℕ, Bool, true, false, List, Option}
-use Rattle.std.specs.Io.KnownBytes.{Appends}
-use Rattle.uvl_outside.specs.Sink.{AppendsFront}
-use Rattle.uvl_outside.specs.declared.sink.PutFault.{PutFault}
-use Rattle.uvl_outside.specs.declared.sink.PutFault.TheVariants.{Failed, OutOfMemory}
+-- The statuses of a run: their numbers, and which of them each ending has.
+use Rattle.std.specs.Prelude.{ℕ, Option, Some, None}
+use Rattle.uvl_lines.specs.declared.ending.Ending.{Ending}
+use Rattle.uvl_lines.specs.declared.ending.Ending.TheVariants as lines
+use Rattle.uvl_run.specs.Outside.{Object, the_files, the_input, the_output}
 use Rattle.uvl_run.specs.declared.status.Status.{Status}
 use Rattle.uvl_run.specs.declared.status.Status.TheVariants.{Done, Usage, Model, ReadFault, WriteFault, OverBudget, NoMemory, TooMuchInput}
 
@@ -18,35 +17,30 @@ number_of OverBudget = 6
 number_of NoMemory = 7
 number_of TooMuchInput = 8
 
--- the host failed while the model or the script was read
-abbrev pub is_read_fault : Status → Bool
-is_read_fault Done = false
-is_read_fault Usage = false
-is_read_fault Model = false
-is_read_fault ReadFault = true
-is_read_fault WriteFault = false
-is_read_fault OverBudget = false
-is_read_fault NoMemory = false
-is_read_fault TooMuchInput = false
+-- how a run ends: its status, and the object whose fault ended it, if one did
+pub record Outcome : Type 0 where
+  pub status : Status
+  pub failed : Option Object
 
--- the host failed while a reply was written
-abbrev pub is_write_fault : Status → Bool
-is_write_fault Done = false
-is_write_fault Usage = false
-is_write_fault Model = false
-is_write_fault ReadFault = false
-is_write_fault WriteFault = true
-is_write_fault OverBudget = false
-is_write_fault NoMemory = false
-is_write_fault TooMuchInput = false
+-- no object failed
+abbrev pub unhindered : Status → Outcome
+unhindered status = record { status = status; failed = None }
 
--- the status of a run that ends with a fault of the sink
-abbrev pub status_of : PutFault → Status
-status_of Failed = WriteFault
-status_of OutOfMemory = NoMemory
+-- the status where an object failed
+abbrev pub fault_status : Object → Status
+fault_status the_files = ReadFault
+fault_status the_input = ReadFault
+fault_status the_output = WriteFault
 
--- what the status of a run that writes one last text says of that text: it is written whole, or only a front of it
-abbrev pub PutsLast : Option (List ℕ) → Option (List ℕ) → List ℕ → Status → Status → Type 0
-PutsLast before now text whole status =
-    ((status ≡ whole) × Appends before now text)
-    ⊎ (((status ≡ WriteFault) ⊎ (status ≡ NoMemory)) × AppendsFront before now text)
+-- an object failed
+abbrev pub failure_of : Object → Outcome
+failure_of object = record { status = fault_status object; failed = Some object }
+
+-- what each ending of a script is to the run
+abbrev pub outcome_of : Ending → Outcome
+outcome_of lines.Done = unhindered Done
+outcome_of lines.TooMuch = unhindered TooMuchInput
+outcome_of lines.InputFailed = failure_of the_input
+outcome_of lines.FetchFailed = failure_of the_files
+outcome_of lines.WriteFailed = failure_of the_output
+outcome_of lines.NoMemory = unhindered NoMemory

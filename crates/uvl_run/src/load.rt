@@ -2,25 +2,21 @@
 ghost use Rattle.std.specs.Prelude.{◌≡◌, ◌≤◌, length, IfOk, IfErr, IfSome, Bool};
 ghost use Rattle.uvl_ast.specs.Depth.{depth_of};
 ghost use Rattle.uvl_ast.specs.Members.{EachGroupHasMembers};
+ghost use Rattle.uvl_base.specs.Limits.{most_file_bytes, most_depth};
 ghost use Rattle.uvl_outside.specs.Faults.{Counts};
 ghost use Rattle.uvl_model.specs.OptionalGroups.{GroupsAreMandatoryOrOptional};
-ghost use Rattle.uvl_model.specs.Spelling.{Spells};
-ghost use Rattle.uvl_model.specs.Tree.{Tree};
 ghost use Rattle.uvl_run.specs.LoadFaults.{IsCauseOf, IsCauseIn, load_failed, of_whole_file};
-ghost use Rattle.uvl_run.specs.Loading.{IsFileWithoutRuleLists, LoadsModel, SaysTree};
+ghost use Rattle.uvl_run.specs.Loading.{IsFileWithoutRuleLists, IsLoaded, SaysModel};
 
 use crate::rule_lists::has_rule_list;
 use std::alloc::Global;
 use uvl_ast::File;
-use uvl_base::{FaultKind, Place};
+use uvl_base::{FaultKind, MOST_FILE_BYTES, Place};
 use uvl_lexer::{LexFault, lex};
 use uvl_model::Model;
 use uvl_outside::{FetchFault, Fetched, Files};
 use uvl_parser::{ParseFault, parse};
-use uvl_resolve::{ResolveFault, files_are_built_or_have_a_cause, files_have_one_tree, resolve};
-
-/// The most bytes of one file.
-const MOST_FILE_BYTES: usize = 8_388_608;
+use uvl_resolve::{ResolveFault, flat_keeps_products, resolve};
 
 /// Why there is no model.
 #[derive(Clone, Copy, Debug, PartialEq, Eq)]
@@ -90,7 +86,7 @@ pub(crate) fn load_model<F: Files>(
     files: &mut F,
     path: &str,
 ) -> Result<Model, LoadFault>
-    ensures model { IfOk result (λ model. (tree : Tree) × Spells tree model × LoadsModel (F.told files.old) path.now tree) }
+    ensures model { IfOk result (IsLoaded (F.told files.old) path.now) }
     ensures groups { IfOk result GroupsAreMandatoryOrOptional }
     ensures fault { IfErr result (IsCauseOf (F.told files.old) path.now) }
     ensures same { F.told files.new ≡ F.told files.old }
@@ -108,23 +104,22 @@ pub(crate) fn load_model<F: Files>(
 
 /// The model that a file's bytes say.
 fn model_in(alloc: Global, bytes: &[u8]) -> Result<Model, LoadFault>
-    requires { length bytes.now ≤ 8388608 }
-    ensures model { IfOk result (λ model. (tree : Tree) × Spells tree model × SaysTree bytes.now tree) }
+    requires { length bytes.now ≤ most_file_bytes }
+    ensures model { IfOk result (SaysModel bytes.now) }
     ensures groups { IfOk result GroupsAreMandatoryOrOptional }
     ensures fault { IfErr result (IsCauseIn bytes.now) }
 {
-    // Laws, which are facts for the proof.
-    files_have_one_tree();
-    files_are_built_or_have_a_cause();
+    // A law, which is a fact for the proof.
+    flat_keeps_products();
     let file = file_in(alloc, bytes)?;
     Ok(resolve(alloc, &file)?)
 }
 
 /// The syntax of a file's bytes, where no list of rules stands in its braces: no model is made of others.
 fn file_in(alloc: Global, bytes: &[u8]) -> Result<File, LoadFault>
-    requires { length bytes.now ≤ 8388608 }
+    requires { length bytes.now ≤ most_file_bytes }
     ensures file { IfOk result (IsFileWithoutRuleLists bytes.now) }
-    ensures shallow { IfOk result (λ file. IfSome file.root (λ root. depth_of root ≤ 64)) }
+    ensures shallow { IfOk result (λ file. IfSome file.root (λ root. depth_of root ≤ most_depth)) }
     ensures members { IfOk result (λ file. IfSome file.root EachGroupHasMembers) }
     ensures fault { IfErr result (IsCauseIn bytes.now) }
 {

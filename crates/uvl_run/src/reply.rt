@@ -1,62 +1,37 @@
-//! The replies to the lines of a script.
-ghost use Rattle.std.specs.Prelude.{◌≡◌};
-ghost use Rattle.uvl_run.specs.Replies.{yes_or_no, reply_by_word};
-ghost use Rattle.uvl_run.specs.ReplyTexts.{reply_text, text_of};
-ghost use Rattle.uvl_script.specs.Faults.{word_of};
+//! The replies to commands, written line by line.
+ghost use Rattle.std.specs.Prelude.{◌≡◌, ◌++◌, ◌∷◌, [], OnOk, codes};
+ghost use Rattle.uvl_run.specs.YesOrNo.{yes_or_no, word_for};
 
-use uvl_script::LineFault;
+use std::alloc::AllocError;
 
-/// What a line is answered. All but the first two refuse it.
-#[derive(Clone, Copy, Debug, PartialEq, Eq)]
-pub(crate) enum Reply {
-    Yes,
-    No,
-    UnknownFeature,
-    TooLong,
-    BadUtf8,
-    BadName,
-    UnknownCommand,
-    WrongArity,
-}
-
-impl Reply {
-    /// The bytes of the reply: its lines, and then a line with a point.
-    #[tactic(auto, unfolding(crate::specs::ReplyTexts::reply_text))]
-    pub(crate) fn text(self) -> &'static str
-        ensures { result.now ≡ reply_text self }
-    {
-        match self {
-            Reply::Yes => "yes\n.\n",
-            Reply::No => "no\n.\n",
-            Reply::UnknownFeature => "refused unknown-feature\n.\n",
-            Reply::TooLong => "refused too-long\n.\n",
-            Reply::BadUtf8 => "refused bad-utf8\n.\n",
-            Reply::BadName => "refused bad-name\n.\n",
-            Reply::UnknownCommand => "refused unknown-command\n.\n",
-            Reply::WrongArity => "refused wrong-arity\n.\n",
-        }
-    }
-
-    /// The reply to a question.
-    #[tactic(auto, unfolding(crate::specs::ReplyTexts::reply_text))]
-    pub(crate) fn yes_or_no(answer: bool) -> Reply
-        ensures { reply_text result ≡ yes_or_no answer }
-    {
-        if answer { Reply::Yes } else { Reply::No }
-    }
-}
-
-/// The reply to a line with this fault. Want of memory has none: it refuses no line.
-#[tactic(auto, unfolding(crate::specs::ReplyTexts::reply_text))]
-pub(crate) fn refusal_of(fault: LineFault) -> Option<Reply>
-    ensures { text_of result ≡ reply_by_word (word_of fault) }
+/// Writes a line of a reply behind what the buffer has.
+pub(crate) fn push_line(line: &str, into: &mut Vec<u8>) -> Result<(), AllocError>
+    ensures { OnOk result (into.new.items ≡ into.old.items ++ line.now ++ 10 ∷ []) }
 {
-    match fault {
-        LineFault::TooLong => Some(Reply::TooLong),
-        LineFault::BadUtf8 => Some(Reply::BadUtf8),
-        LineFault::BadName => Some(Reply::BadName),
-        LineFault::UnknownCommand => Some(Reply::UnknownCommand),
-        LineFault::WrongArity => Some(Reply::WrongArity),
-        LineFault::OutOfMemory => None,
-    }
+    into.extend_from_slice(line.as_bytes())?;
+    into.push(b'\n')?;
+    Ok(())
+}
+
+/// Ends a reply: a line with a point stands behind its lines.
+pub(crate) fn end_reply(into: &mut Vec<u8>) -> Result<(), AllocError>
+    ensures { OnOk result (into.new.items ≡ into.old.items ++ codes ".\n") }
+{
+    into.extend_from_slice(b".\n".as_slice())
+}
+
+/// Writes the reply to a question into an empty buffer.
+pub(crate) fn push_yes_or_no(answer: bool, into: &mut Vec<u8>) -> Result<(), AllocError>
+    requires { into.old.items ≡ [] }
+    ensures { OnOk result (into.new.items ≡ yes_or_no answer) }
+{
+    push_line(word_for(answer), into)?;
+    end_reply(into)
+}
+
+/// The word for an answer.
+fn word_for(answer: bool) -> &'static str
+    ensures { result.now ≡ word_for answer }
+{
+    if answer { "yes" } else { "no" }
 }

@@ -2,7 +2,7 @@
 ghost use Rattle.std.specs.Prelude.{◌≡◌};
 ghost use Rattle.uvl_run.specs.Status.{number_of};
 
-use uvl_outside::PutFault;
+use uvl_lines::Ending;
 
 /// How a run ends. The number is the exit status of the program.
 #[derive(Clone, Copy, Debug, PartialEq, Eq)]
@@ -13,16 +13,16 @@ pub enum Status {
     Usage,
     /// The model has a fault. The fault line is written.
     Model,
-    /// The host failed while the model or the script was read.
+    /// The host failed while the model or the script was read, or a file that a line of it asks for.
     ReadFault,
-    /// The host failed while a reply was written. A front of the run's bytes is written.
+    /// The host failed while something was written. A front of the run's bytes is written.
     WriteFault,
     /// The budget of nodes is too small for the model. The line `refused budget` is written, and
     /// nothing is read from the input.
     OverBudget,
     /// Memory is wanting. The replies before it are written whole, and perhaps a front of the next.
     NoMemory,
-    /// The script has more than 67,108,864 bytes. The lines that end within these have their replies.
+    /// The script has more bytes than it may have. The lines that end within these have their replies.
     TooMuchInput,
 }
 
@@ -44,17 +44,20 @@ impl Status {
     }
 }
 
-/// A fault of the sink ends the run.
-impl From<PutFault> for Status {
+/// What the ending of a script is to the run.
+impl From<Ending> for Status {
     ghost use Rattle.std.specs.Prelude.{◌≡◌};
-    ghost use Rattle.uvl_run.specs.Status.{status_of};
+    ghost use Rattle.uvl_run.specs.Status.{outcome_of};
 
-    ghost from_gives = { λ fault status. status ≡ status_of fault };
+    ghost from_gives = { λ ending status. status ≡ (outcome_of ending).status };
 
-    fn from(fault: PutFault) -> Status {
-        match fault {
-            PutFault::Failed => Status::WriteFault,
-            PutFault::OutOfMemory => Status::NoMemory,
+    fn from(ending: Ending) -> Status {
+        match ending {
+            Ending::Done => Status::Done,
+            Ending::TooMuch => Status::TooMuchInput,
+            Ending::InputFailed | Ending::FetchFailed => Status::ReadFault,
+            Ending::WriteFailed => Status::WriteFault,
+            Ending::NoMemory => Status::NoMemory,
         }
     }
 }

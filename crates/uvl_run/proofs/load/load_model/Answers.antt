@@ -1,16 +1,13 @@
 -- What was fetched says what the model is, or which fault it has.
 use Rattle.std.proofs.Common.{List, ℕ, IfOk, IfErr, subst}
-use Rattle.uvl_model.specs.Tree.{Tree}
-use Rattle.uvl_model.specs.Rows.{Rows}
-use Rattle.uvl_model.specs.Spelling.{Spells}
-use Rattle.uvl_run.specs.Loading.{SaysTree}
+use Rattle.uvl_run.specs.Loading.{SaysModel}
 use Rattle.uvl_run.specs.LoadFaults.{IsCauseIn}
 use Rattle.uvl_run.proofs.Loads.{model_of_whole, fault_of_whole, fault_of_too_long}
 use Rattle.uvl_run.proofs.load.load_model.Goals as goal
 
 pub returns-in-Ok-Whole-clause-model : goal.returns-in-Ok-Whole-clause-model
 returns-in-Ok-Whole-clause-model g c =
-    let P : List ℕ → Type 0 = λ bytes. IfOk c.model_in.result (λ (model : Rows). (tree : Tree) × Spells tree model × SaysTree bytes tree) in
+    let P : List ℕ → Type 0 = λ bytes. IfOk c.model_in.result (SaysModel bytes) in
     model_of_whole (g.F.Files.told c.args.files.now) c.args.path.now c.fetch.new.into.items (rw c.in-Ok-Whole.field-0-is at c.in-Ok-Whole.ensures.fetched) _ (subst P c.deref.ensures.value c.model_in.ensures.model)
 
 pub returns-in-Ok-Whole-clause-fault : goal.returns-in-Ok-Whole-clause-fault

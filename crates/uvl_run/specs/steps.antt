@@ -1,0 +1,3 @@
+-- What private functions do, in their own terms.
+pub mod Compiled
+pub mod Says
