@@ -1,5 +1,4 @@
 pub mod Check
-pub mod Examples
 pub mod Family
 pub mod Laws
 pub mod Marks

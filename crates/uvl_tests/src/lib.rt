@@ -25,6 +25,8 @@ mod profile;
 #[cfg(test)]
 mod resolve;
 #[cfg(test)]
+mod run;
+#[cfg(test)]
 mod script;
 #[cfg(test)]
 mod store;

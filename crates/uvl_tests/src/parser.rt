@@ -1,27 +1,19 @@
 //! What the parser answers for whole texts: trees, and places with kinds of faults. The answers follow
 //! from the grammar by hand.
-use crate::printing::put_file;
+use crate::printing::{put_file, put_placed};
 use crate::texts::{FRONT, Parts, chain, joined, tokens_of};
 use std::alloc::Global;
-use std::fmt::Write;
 use std::process::Abort;
 use std::test::Fail;
-use uvl_base::Place;
 use uvl_parser::{ParseFault, parse};
 
-/// The tree of a text and where its file ends, or the place and the kind of its fault.
+/// The tree of a text and where its file ends, or the kind and the place of its fault.
 fn answer(alloc: Global, text: &str) -> Result<String, Fail> {
     let tokens = tokens_of(alloc, text)?;
     let mut shown = String::new(alloc);
     match parse(alloc, &tokens) {
-        Ok(file) => {
-            put_file(&mut shown, &file)?;
-        }
-        Err(ParseFault::At { place, kind }) => {
-            let Place { line, column } = place;
-            let kind = kind.name();
-            write!(shown, "{line}:{column} {kind}")?;
-        }
+        Ok(file) => put_file(&mut shown, &file)?,
+        Err(ParseFault::At { place, kind }) => put_placed(&mut shown, kind.name(), place)?,
         Err(ParseFault::OutOfMemory) => return Err(Fail::from("out of memory")),
     }
     Ok(shown)
@@ -135,67 +127,67 @@ const ACCEPTED: [(&str, &str); 11] = [
 
 /// Texts that are refused, with their faults.
 const REFUSED: [(&str, &str); 38] = [
-    ("namespace\n", "1:10 Syntax"),
-    ("\tA\n", "1:2 Syntax"),
-    ("include\n\t+\n", "2:2 Syntax"),
-    ("imports\n\tradio as\n", "2:10 Syntax"),
-    ("features\n", "2:1 Syntax"),
-    ("features\n\tor\n", "2:2 Syntax"),
-    ("features\n\tA.\n", "2:4 Syntax"),
-    ("features\n\tA\n\tB\n", "3:2 Syntax"),
-    ("features\n\tA\nnamespace N\n", "3:1 Syntax"),
-    ("features\n\tA\n\t\t\tB\n", "3:4 Syntax"),
+    ("namespace\n", "Syntax@1:10"),
+    ("\tA\n", "Syntax@1:2"),
+    ("include\n\t+\n", "Syntax@2:2"),
+    ("imports\n\tradio as\n", "Syntax@2:10"),
+    ("features\n", "Syntax@2:1"),
+    ("features\n\tor\n", "Syntax@2:2"),
+    ("features\n\tA.\n", "Syntax@2:4"),
+    ("features\n\tA\n\tB\n", "Syntax@3:2"),
+    ("features\n\tA\nnamespace N\n", "Syntax@3:1"),
+    ("features\n\tA\n\t\t\tB\n", "Syntax@3:4"),
     (
         "features\n\tA\n\t\toptional\n\t\tor\n\t\t\tB\n",
-        "4:3 Syntax",
+        "Syntax@4:3",
     ),
-    ("features\n\tA\n\t\t[1.5]\n\t\t\tB\n", "3:4 Syntax"),
-    ("features\n\tA\n\t\t[1..]\n\t\t\tB\n", "3:7 Syntax"),
-    ("features\n\tA {x 1,}\n", "2:9 Syntax"),
-    ("features\n\tA {x -}\n", "2:8 Syntax"),
-    ("features\n\tA {constraints B}\n", "2:17 Syntax"),
-    ("constraints\n\tA < A < A\n", "2:8 Syntax"),
-    ("constraints\n\tA &\n", "2:5 Syntax"),
-    ("constraints\n\tA =>\n", "2:6 Syntax"),
-    ("constraints\n\tA & | B\n", "2:6 Syntax"),
-    ("constraints\n\t-A\n", "2:3 Syntax"),
-    ("constraints\n\tA.\n", "2:4 Syntax"),
-    ("constraints\n\tsum(1)\n", "2:6 Syntax"),
-    ("constraints\n\tA + !B\n", "2:6 Syntax"),
-    ("constraints\n\t((A)), B\n", "2:7 Syntax"),
-    ("features\n\tString A\n", "2:2 TypedFeature"),
+    ("features\n\tA\n\t\t[1.5]\n\t\t\tB\n", "Syntax@3:4"),
+    ("features\n\tA\n\t\t[1..]\n\t\t\tB\n", "Syntax@3:7"),
+    ("features\n\tA {x 1,}\n", "Syntax@2:9"),
+    ("features\n\tA {x -}\n", "Syntax@2:8"),
+    ("features\n\tA {constraints B}\n", "Syntax@2:17"),
+    ("constraints\n\tA < A < A\n", "Syntax@2:8"),
+    ("constraints\n\tA &\n", "Syntax@2:5"),
+    ("constraints\n\tA =>\n", "Syntax@2:6"),
+    ("constraints\n\tA & | B\n", "Syntax@2:6"),
+    ("constraints\n\t-A\n", "Syntax@2:3"),
+    ("constraints\n\tA.\n", "Syntax@2:4"),
+    ("constraints\n\tsum(1)\n", "Syntax@2:6"),
+    ("constraints\n\tA + !B\n", "Syntax@2:6"),
+    ("constraints\n\t((A)), B\n", "Syntax@2:7"),
+    ("features\n\tString A\n", "TypedFeature@2:2"),
     (
         "features\n\tA\n\t\tor\n\t\t\tInteger B\n",
-        "4:4 TypedFeature",
+        "TypedFeature@4:4",
     ),
-    ("features\n\tA\n\t\tor\n\t\t\tReal B\n", "4:4 TypedFeature"),
+    ("features\n\tA\n\t\tor\n\t\t\tReal B\n", "TypedFeature@4:4"),
     (
         "features\n\tA cardinality [1..3]\n",
-        "2:4 FeatureCardinality",
+        "FeatureCardinality@2:4",
     ),
-    ("constraints\n\tavg(x) > 2\n", "2:2 Average"),
-    ("constraints\n\tA / 2 > 1\n", "2:4 UnsupportedOperation"),
-    ("constraints\n\tlen(A) > 1\n", "2:2 UnsupportedOperation"),
-    ("constraints\n\tA > floor(B)\n", "2:6 UnsupportedOperation"),
-    ("constraints\n\tA > ceil(B)\n", "2:6 UnsupportedOperation"),
-    ("constraints\n\tA == 'x'\n", "2:7 UnsupportedOperation"),
-    ("constraints\n\tsum(p, A) > 1\n", "2:7 UnsupportedOperation"),
+    ("constraints\n\tavg(x) > 2\n", "Average@2:2"),
+    ("constraints\n\tA / 2 > 1\n", "UnsupportedOperation@2:4"),
+    ("constraints\n\tlen(A) > 1\n", "UnsupportedOperation@2:2"),
+    ("constraints\n\tA > floor(B)\n", "UnsupportedOperation@2:6"),
+    ("constraints\n\tA > ceil(B)\n", "UnsupportedOperation@2:6"),
+    ("constraints\n\tA == 'x'\n", "UnsupportedOperation@2:7"),
+    ("constraints\n\tsum(p, A) > 1\n", "UnsupportedOperation@2:7"),
     // the first fault, and of two at one token the one with a name of its own
-    ("features\n\tA B\n\t\tor\n\t\t\tReal C\n", "2:4 Syntax"),
-    ("features avg\n", "1:10 Average"),
+    ("features\n\tA B\n\t\tor\n\t\t\tReal C\n", "Syntax@2:4"),
+    ("features avg\n", "Average@1:10"),
 ];
 
 /// Parts of texts that are too large or too deep, with their faults.
 const LARGE: [(Parts, &str); 3] = [
     (
         &[FRONT, ("A|", 4096), ("A\n", 1)],
-        "4:8194 ExpressionTooLarge",
+        "ExpressionTooLarge@4:8194",
     ),
-    (&[FRONT, ("!", 129), ("A\n", 1)], "4:130 TooDeep"),
+    (&[FRONT, ("!", 129), ("A\n", 1)], "TooDeep@4:130"),
     // of two such faults at one token the one with the lower number
     (
         &[FRONT, ("A|", 4032), ("!", 129), ("A\n", 1)],
-        "4:8194 ExpressionTooLarge",
+        "ExpressionTooLarge@4:8194",
     ),
 ];
 
@@ -232,6 +224,6 @@ fn each_refusal_has_its_place_and_its_kind(rt: HostRuntime) -> Result<(), Fail> 
         &rt,
         rt.alloc(),
         chain(rt.alloc(), 65, "")?.as_str(),
-        "130:130 TooDeep",
+        "TooDeep@130:130",
     )
 }

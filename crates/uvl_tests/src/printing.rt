@@ -3,7 +3,7 @@
 use std::alloc::AllocError;
 use std::fmt::Write;
 use uvl_ast::{AttrValue, Attribute, BinOp, Expr, Feature, File, Group, GroupKind, Import, Ref};
-use uvl_base::Place;
+use uvl_base::{Fixed, Place};
 
 fn sign_of(operator: BinOp) -> &'static str {
     match operator {
@@ -23,16 +23,29 @@ fn sign_of(operator: BinOp) -> &'static str {
     }
 }
 
+fn put_number(into: &mut String, number: u64) -> Result<(), AllocError> {
+    write!(into, "{number}")
+}
+
+fn put_millionths(into: &mut String, value: Fixed) -> Result<(), AllocError> {
+    let millionths = value.millionths();
+    write!(into, "{millionths}")
+}
+
 /// A node and the column in which it stands.
 fn put(into: &mut String, node: &str, place: Place) -> Result<(), AllocError> {
-    let column = place.column;
-    write!(into, "{node}@{column}")
+    into.push_str(node)?;
+    into.push('@')?;
+    put_number(into, u64::from(place.column))
 }
 
 /// A node and the line and the column in which it stands.
-fn put_placed(into: &mut String, node: &str, place: Place) -> Result<(), AllocError> {
-    let Place { line, column } = place;
-    write!(into, "{node}@{line}:{column}")
+pub(crate) fn put_placed(into: &mut String, node: &str, place: Place) -> Result<(), AllocError> {
+    into.push_str(node)?;
+    into.push('@')?;
+    put_number(into, u64::from(place.line))?;
+    into.push(':')?;
+    put_number(into, u64::from(place.column))
 }
 
 fn put_names(into: &mut String, reference: &Ref) -> Result<(), AllocError> {
@@ -57,8 +70,7 @@ fn put_reference(into: &mut String, reference: &Ref) -> Result<(), AllocError> {
 fn put_expression(into: &mut String, expr: &Expr) -> Result<(), AllocError> {
     match expr {
         Expr::Number(value, place) => {
-            let millionths = value.millionths();
-            write!(into, "{millionths}")?;
+            put_millionths(into, *value)?;
             put(into, "", *place)
         }
         Expr::Name(reference) => {
@@ -66,9 +78,8 @@ fn put_expression(into: &mut String, expr: &Expr) -> Result<(), AllocError> {
             put(into, "", reference.place)
         }
         Expr::Sum(key, place) => {
-            let key = key.text();
-            write!(into, "sum {key}")?;
-            put(into, "", *place)
+            into.push_str("sum ")?;
+            put(into, key.text(), *place)
         }
         Expr::Not(inner, place) => {
             put(into, "!", *place)?;
@@ -91,13 +102,11 @@ fn put_value(into: &mut String, value: &AttrValue) -> Result<(), AllocError> {
     match value {
         AttrValue::Yes => into.push_str("yes"),
         AttrValue::No => into.push_str("no"),
-        AttrValue::Number(value) => {
-            let millionths = value.millionths();
-            write!(into, "{millionths}")
-        }
+        AttrValue::Number(value) => put_millionths(into, *value),
         AttrValue::Words(text) => {
-            let text = text.text();
-            write!(into, "'{text}'")
+            into.push('\'')?;
+            into.push_str(text.text())?;
+            into.push('\'')
         }
         AttrValue::List(attributes) => {
             into.push('{')?;
@@ -131,8 +140,16 @@ fn put_kind(into: &mut String, kind: GroupKind) -> Result<(), AllocError> {
         GroupKind::Optional => into.push_str("optional"),
         GroupKind::Alternative => into.push_str("alternative"),
         GroupKind::Or => into.push_str("or"),
-        GroupKind::Range { lo, hi: Some(hi) } => write!(into, "{lo}..{hi}"),
-        GroupKind::Range { lo, hi: None } => write!(into, "{lo}..*"),
+        GroupKind::Range { lo, hi } => put_range(into, lo, hi),
+    }
+}
+
+fn put_range(into: &mut String, lo: u64, hi: Option<u64>) -> Result<(), AllocError> {
+    put_number(into, lo)?;
+    into.push_str("..")?;
+    match hi {
+        Some(hi) => put_number(into, hi),
+        None => into.push('*'),
     }
 }
 
@@ -184,8 +201,9 @@ fn put_head(into: &mut String, file: &File) -> Result<(), AllocError> {
         into.push(';')?;
     }
     for level in file.levels.as_slice() {
-        let level = level.text();
-        write!(into, "include {level};")?;
+        into.push_str("include ")?;
+        into.push_str(level.text())?;
+        into.push(';')?;
     }
     for import in file.imports.as_slice() {
         put_import(into, import)?;
