@@ -3,6 +3,7 @@ ghost use Rattle.std.specs.Prelude.{◌≡◌, Ok, Err, [], ◌∷◌, ◌++◌,
 ghost use Rattle.uvl_grammar.specs.Braces.{attributes_of, rules_of};
 ghost use Rattle.uvl_grammar.specs.steps.Reading.{many, behind_comma, separated};
 ghost use Rattle.uvl_parser.specs.steps.Gives.{Gives};
+ghost use Rattle.uvl_parser.specs.steps.Keeping.{GivesKept};
 ghost use Rattle.uvl_grammar.specs.steps.Tests.{is_symbol};
 ghost use Rattle.uvl_grammar.specs.steps.Expressions.{expression};
 ghost use Rattle.uvl_grammar.specs.steps.Braces.{rule_list, entry, braces, kept, kept_behind, kept_closed};
@@ -23,7 +24,7 @@ use uvl_lexer::{Symbol, Token, Word};
 /// Reads braces, where there are any.
 #[tactic(auto, unfolding(uvl_grammar::specs::steps::Braces::braces, uvl_grammar::specs::steps::Reading::choose, uvl_grammar::specs::steps::Reading::bind, uvl_grammar::specs::steps::Reading::done))]
 pub(crate) fn braces(alloc: Global, tokens: &[Token]) -> Result<(Kept, &[Token]), Stop>
-    ensures { Gives (λ r. ((r.0.attributes, r.0.rules), r.1.now)) result (kept (braces tokens.now)) }
+    ensures { GivesKept result (kept (braces tokens.now)) }
 {
     if begins_with(tokens, Symbol::LeftBrace) {
         let (_, rest) = token(tokens, Symbol::LeftBrace)?;
@@ -35,7 +36,7 @@ pub(crate) fn braces(alloc: Global, tokens: &[Token]) -> Result<(Kept, &[Token])
 
 /// Reads entries and the brace that closes them.
 fn closed_entries(alloc: Global, tokens: &[Token]) -> Result<(Kept, &[Token]), Stop>
-    ensures { Gives (λ r. ((r.0.attributes, r.0.rules), r.1.now)) result (kept_closed (kept (separated (is_symbol RightBrace) entry tokens.now))) }
+    ensures { GivesKept result (kept_closed (kept (separated (is_symbol RightBrace) entry tokens.now))) }
 {
     let (kept, rest) = entries(alloc, tokens)?;
     let (_, rest) = token(rest, Symbol::RightBrace)?;
@@ -56,7 +57,7 @@ fn nothing(alloc: Global) -> Kept
 /// Reads entries with commas between them.
 #[tactic(auto, unfolding(uvl_grammar::specs::steps::Reading::separated, uvl_grammar::specs::steps::Reading::choose, uvl_grammar::specs::steps::Reading::bind, uvl_grammar::specs::steps::Reading::done))]
 fn entries(alloc: Global, tokens: &[Token]) -> Result<(Kept, &[Token]), Stop>
-    ensures { Gives (λ r. ((r.0.attributes, r.0.rules), r.1.now)) result (kept (separated (is_symbol RightBrace) entry tokens.now)) }
+    ensures { GivesKept result (kept (separated (is_symbol RightBrace) entry tokens.now)) }
 {
     let mut kept = nothing(alloc);
     if begins_with(tokens, Symbol::RightBrace) {

@@ -18,7 +18,7 @@ use std::alloc::Global;
 use uvl_ast::{Feature, Group};
 use uvl_lexer::{Token, Word};
 
-/// Reads a feature with all that is below it, however deep: each level has tokens of its own.
+/// Reads a feature with all that is below it, however deep: each feature has tokens of its own.
 pub(crate) fn tree(alloc: Global, tokens: &[Token]) -> Result<(Feature, &[Token]), Stop>
     ensures { Gives (λ r. (r.0, r.1.now)) result (tree tokens.now) }
 {
@@ -38,7 +38,7 @@ fn behind_boolean(tokens: &[Token]) -> Result<&[Token], Stop>
     }
 }
 
-/// Reads a feature below which there are fewer than `depth` levels of features, itself counted.
+/// Reads a feature that nests less than `depth` deep, itself counted.
 #[cycle(features)]
 #[tactic(auto, unfolding(uvl_grammar::specs::steps::Features::feature_at))]
 fn feature_at(alloc: Global, tokens: &[Token], depth: usize) -> Result<(Feature, &[Token]), Stop>
@@ -50,7 +50,7 @@ fn feature_at(alloc: Global, tokens: &[Token], depth: usize) -> Result<(Feature,
     feature(alloc, tokens, depth - 1)
 }
 
-/// Reads a feature, below which there are at most `depth` levels of features.
+/// Reads a feature whose members nest less than `depth` deep, themselves counted.
 #[cycle(features)]
 #[tactic(auto, unfolding(uvl_grammar::specs::steps::Features::feature_with, uvl_grammar::specs::steps::Reading::bind, uvl_grammar::specs::steps::Reading::done))]
 fn feature(alloc: Global, tokens: &[Token], depth: usize) -> Result<(Feature, &[Token]), Stop>
@@ -72,7 +72,7 @@ fn feature(alloc: Global, tokens: &[Token], depth: usize) -> Result<(Feature, &[
     ))
 }
 
-/// Reads groups that are indented by a level, or nothing.
+/// Reads one or more groups that are indented further, or nothing.
 #[cycle(features)]
 fn groups(alloc: Global, tokens: &[Token], depth: usize) -> Result<(Items<Group>, &[Token]), Stop>
     ensures { Gives (λ r. (r.0, r.1.now)) result (body (group_with (feature_at depth)) tokens.now) }
@@ -86,7 +86,7 @@ fn groups(alloc: Global, tokens: &[Token], depth: usize) -> Result<(Items<Group>
     )
 }
 
-/// Reads a group, below whose members there are fewer than `depth` levels, themselves counted.
+/// Reads a group whose members nest less than `depth` deep, themselves counted.
 #[cycle(features)]
 #[tactic(auto, unfolding(uvl_grammar::specs::steps::Features::group_with, uvl_grammar::specs::steps::Reading::bind, uvl_grammar::specs::steps::Reading::done))]
 fn group(alloc: Global, tokens: &[Token], depth: usize) -> Result<(Group, &[Token]), Stop>

@@ -1,5 +1,5 @@
 //! The lines of `include`. The text of a line is the spelling of its tokens.
-ghost use Rattle.std.specs.Prelude.{◌≡◌, ◌++◌, Ok, Err, IfOk, OnOk, chars, string_bytes};
+ghost use Rattle.std.specs.Prelude.{◌≡◌, ◌++◌, Ok, Err, IfOk, OnOk, chars};
 ghost use Rattle.std.specs.Option.{option_map};
 ghost use Rattle.uvl_lexer.specs.declared.token.TokenKind.TheVariants as token;
 ghost use Rattle.uvl_grammar.specs.steps.Tests.{begins};
@@ -8,7 +8,7 @@ ghost use Rattle.uvl_grammar.specs.steps.Reading.{many};
 ghost use Rattle.uvl_parser.specs.steps.Gives.{Gives};
 ghost use Rattle.uvl_base.specs.declared.word.Word.TheVariants.{Include};
 ghost use Rattle.uvl_grammar.specs.steps.Sections.{level, level_token, is_level_part, section};
-ghost use Rattle.uvl_parser.specs.steps.LanguageLevels.{text_onto, texts_onto, line_text, level_text, Pushes};
+ghost use Rattle.uvl_parser.specs.steps.LanguageLevels.{characters_of, text_onto, texts_onto, line_text, level_text, Pushes};
 
 use crate::layout::Layout;
 use crate::reading::Stop;
@@ -21,14 +21,14 @@ use uvl_lexer::{Symbol, Token, TokenKind, Word};
 
 /// Puts a text behind another.
 fn push_text(into: &mut String, text: &str) -> Result<(), AllocError>
-    ensures { OnOk result (chars (string_bytes into.new) ≡ chars (string_bytes into.old) ++ chars text.now) }
+    ensures { OnOk result (characters_of into.new ≡ characters_of into.old ++ chars text.now) }
 {
     into.push_str(text)
 }
 
 /// Puts a name behind a text, with its quotes where it has them.
 fn push_name(into: &mut String, name: &str, quoted: bool) -> Result<(), AllocError>
-    ensures { OnOk result (chars (string_bytes into.new) ≡ chars (string_bytes into.old) ++ written_name (chars name.now) quoted) }
+    ensures { OnOk result (characters_of into.new ≡ characters_of into.old ++ written_name (chars name.now) quoted) }
 {
     if !quoted {
         return push_text(into, name);
@@ -38,7 +38,7 @@ fn push_name(into: &mut String, name: &str, quoted: bool) -> Result<(), AllocErr
     push_text(into, "\"")
 }
 
-/// The spelling of a symbol that may stand in a level.
+/// The spelling of a symbol that may stand in a language level.
 fn symbol_text(symbol: Symbol) -> Option<&'static str>
     ensures { option_map (λ t. t.now) result ≡ level_part (token.Symbol symbol) }
 {
@@ -50,9 +50,10 @@ fn symbol_text(symbol: Symbol) -> Option<&'static str>
     }
 }
 
-/// Puts the spelling of a token behind a text, where it may stand in a level, and says whether.
+/// Puts the spelling of a token behind a text, where it may stand in a language level, and says whether.
 fn push_part(into: &mut String, kind: &TokenKind) -> Result<bool, AllocError>
-    ensures { IfOk result (λ pushed. Pushes (level_part kind.now) pushed (chars (string_bytes into.old)) (chars (string_bytes into.new))) }
+    ensures { IfOk result (λ pushed.
+        Pushes (level_part kind.now) pushed (characters_of into.old) (characters_of into.new)) }
 {
     match kind {
         TokenKind::Name { name, quoted } => {
@@ -69,7 +70,8 @@ fn push_part(into: &mut String, kind: &TokenKind) -> Result<bool, AllocError>
 }
 
 fn push_symbol(into: &mut String, symbol: Symbol) -> Result<bool, AllocError>
-    ensures { IfOk result (λ pushed. Pushes (level_part (token.Symbol symbol)) pushed (chars (string_bytes into.old)) (chars (string_bytes into.new))) }
+    ensures { IfOk result (λ pushed.
+        Pushes (level_part (token.Symbol symbol)) pushed (characters_of into.old) (characters_of into.new)) }
 {
     match symbol_text(symbol) {
         Some(text) => {
@@ -80,9 +82,10 @@ fn push_symbol(into: &mut String, symbol: Symbol) -> Result<bool, AllocError>
     }
 }
 
-/// Reads a token of a level, and puts its spelling behind a text.
+/// Reads a token of a language level, and puts its spelling behind a text.
 fn level_token<'a>(into: &mut String, tokens: &'a [Token]) -> Result<&'a [Token], Stop>
-    ensures { Gives (λ rest. (chars (string_bytes into.new), rest.now)) result (text_onto (chars (string_bytes into.old)) (level_token tokens.now)) }
+    ensures { Gives (λ rest. (characters_of into.new, rest.now)) result
+        (text_onto (characters_of into.old) (level_token tokens.now)) }
 {
     let Some((first, rest)) = tokens.split_first() else {
         return Err(Stop::Stuck { left: 0 });
@@ -94,7 +97,7 @@ fn level_token<'a>(into: &mut String, tokens: &'a [Token]) -> Result<&'a [Token]
     }
 }
 
-/// Whether the first token may stand in a level.
+/// Whether the first token may stand in a language level.
 fn begins_level_part(tokens: &[Token]) -> bool
     ensures { result ≡ begins is_level_part tokens.now }
 {
@@ -123,9 +126,10 @@ fn is_level_symbol(symbol: Symbol) -> bool
     }
 }
 
-/// Reads the tokens of a level as long as there are any, and puts their spellings behind a text.
+/// Reads the tokens of a language level as long as there are any, and puts their spellings behind a text.
 fn more_tokens<'a>(into: &mut String, tokens: &'a [Token]) -> Result<&'a [Token], Stop>
-    ensures { Gives (λ rest. (chars (string_bytes into.new), rest.now)) result (texts_onto (chars (string_bytes into.old)) (many is_level_part level_token tokens.now)) }
+    ensures { Gives (λ rest. (characters_of into.new, rest.now)) result
+        (texts_onto (characters_of into.old) (many is_level_part level_token tokens.now)) }
 {
     let mut rest = tokens;
     for _turn in 0..tokens.len() {
@@ -138,10 +142,10 @@ fn more_tokens<'a>(into: &mut String, tokens: &'a [Token]) -> Result<&'a [Token]
     Ok(rest)
 }
 
-/// Reads the text of a level.
+/// Reads the text of a language level.
 #[tactic(auto, unfolding(crate::specs::steps::LanguageLevels::line_text))]
 fn line_text(alloc: Global, tokens: &[Token]) -> Result<(String, &[Token]), Stop>
-    ensures { Gives (λ r. (chars (string_bytes r.0), r.1.now)) result (line_text tokens.now) }
+    ensures { Gives (λ r. (characters_of r.0, r.1.now)) result (line_text tokens.now) }
 {
     let mut text = String::new(alloc);
     let behind = level_token(&mut text, tokens)?;

@@ -1,10 +1,10 @@
 //! Lists of parts, whatever reads a part: one or more while the indentation of their lines goes on, and none or
 //! more with commas between them.
 ghost use Rattle.std.specs.Prelude.{◌≡◌, Ok, Err, ◌++◌};
-ghost use Rattle.uvl_grammar.specs.steps.Reading.{Reader, many, one_or_more, body, behind_comma, separated, with_front};
+ghost use Rattle.uvl_grammar.specs.steps.Reading.{many, one_or_more, body, behind_comma, separated, with_front};
 ghost use Rattle.uvl_grammar.specs.steps.Tests.{stays, is_symbol};
 ghost use Rattle.uvl_lexer.specs.declared.token.Symbol.TheVariants.{Comma};
-ghost use Rattle.uvl_parser.specs.steps.Gives.{Gives, IsReader};
+ghost use Rattle.uvl_parser.specs.steps.Gives.{GivesWith};
 
 use crate::layout::Layout;
 use crate::reading::Stop;
@@ -13,7 +13,7 @@ use sqlite_items::Items;
 use std::alloc::Global;
 use uvl_lexer::{Symbol, Token};
 
-/// Reads parts that are indented by a level, or nothing.
+/// Reads one or more parts that are indented further, or nothing.
 #[tactic(auto, unfolding(uvl_grammar::specs::steps::Reading::body, uvl_grammar::specs::steps::Reading::choose, uvl_grammar::specs::steps::Reading::bind, uvl_grammar::specs::steps::Reading::done))]
 pub(crate) fn body<T: Drop, F: Fn(Global, &[Token]) -> Result<(T, &[Token]), Stop>>(
     alloc: Global,
@@ -21,7 +21,8 @@ pub(crate) fn body<T: Drop, F: Fn(Global, &[Token]) -> Result<(T, &[Token]), Sto
     tokens: &[Token],
 ) -> Result<(Items<T>, &[Token]), Stop>
     requires { F.IsAlwaysCallable read }
-    ensures { (p : Reader T) → IsReader (F.post read) p → Gives (λ r. (r.0, r.1.now)) result (body p tokens.now) }
+    ensures { GivesWith (F.post read) (λ r. (r.0, r.1.now)) result
+        (λ p. body p tokens.now) }
 {
     if begins_with(tokens, Layout::Indent) {
         let (_, rest) = token(tokens, Layout::Indent)?;
@@ -41,7 +42,8 @@ pub(crate) fn one_or_more<T: Drop, F: Fn(Global, &[Token]) -> Result<(T, &[Token
     tokens: &[Token],
 ) -> Result<(Items<T>, &[Token]), Stop>
     requires { F.IsAlwaysCallable read }
-    ensures { (p : Reader T) → IsReader (F.post read) p → Gives (λ r. (r.0, r.1.now)) result (one_or_more stays p tokens.now) }
+    ensures { GivesWith (F.post read) (λ r. (r.0, r.1.now)) result
+        (λ p. one_or_more stays p tokens.now) }
 {
     let (first, rest) = read(alloc, tokens)?;
     let mut parts = Items::new(alloc);
@@ -59,7 +61,8 @@ pub(crate) fn separated<T: Drop, F: Fn(Global, &[Token]) -> Result<(T, &[Token])
     tokens: &[Token],
 ) -> Result<(Items<T>, &[Token]), Stop>
     requires { F.IsAlwaysCallable read }
-    ensures { (p : Reader T) → IsReader (F.post read) p → Gives (λ r. (r.0, r.1.now)) result (separated (is_symbol closes) p tokens.now) }
+    ensures { GivesWith (F.post read) (λ r. (r.0, r.1.now)) result
+        (λ p. separated (is_symbol closes) p tokens.now) }
 {
     let mut parts = Items::new(alloc);
     if begins_with(tokens, closes) {
@@ -80,7 +83,8 @@ fn more<'a, W: TokenTest, T: Drop, F: Fn(Global, &[Token]) -> Result<(T, &[Token
     tokens: &'a [Token],
 ) -> Result<&'a [Token], Stop>
     requires { F.IsAlwaysCallable read.now }
-    ensures { (p : Reader T) → IsReader (F.post read.now) p → Gives (λ rest. (parts.new, rest.now)) result (with_front parts.old (many (W.test goes_on) p tokens.now)) }
+    ensures { GivesWith (F.post read.now) (λ rest. (parts.new, rest.now)) result
+        (λ p. with_front parts.old (many (W.test goes_on) p tokens.now)) }
 {
     let mut rest = tokens;
     for _turn in 0..tokens.len() {
@@ -102,7 +106,8 @@ fn more_behind_commas<'a, T: Drop, F: Fn(Global, &[Token]) -> Result<(T, &[Token
     tokens: &'a [Token],
 ) -> Result<&'a [Token], Stop>
     requires { F.IsAlwaysCallable read.now }
-    ensures { (p : Reader T) → IsReader (F.post read.now) p → Gives (λ rest. (parts.new, rest.now)) result (with_front parts.old (many (is_symbol Comma) (behind_comma p) tokens.now)) }
+    ensures { GivesWith (F.post read.now) (λ rest. (parts.new, rest.now)) result
+        (λ p. with_front parts.old (many (is_symbol Comma) (behind_comma p) tokens.now)) }
 {
     more(
         alloc,
@@ -121,7 +126,8 @@ fn behind_comma<'a, T: Drop, F: Fn(Global, &[Token]) -> Result<(T, &[Token]), St
     tokens: &'a [Token],
 ) -> Result<(T, &'a [Token]), Stop>
     requires { F.IsAlwaysCallable read.now }
-    ensures { (p : Reader T) → IsReader (F.post read.now) p → Gives (λ r. (r.0, r.1.now)) result (behind_comma p tokens.now) }
+    ensures { GivesWith (F.post read.now) (λ r. (r.0, r.1.now)) result
+        (λ p. behind_comma p tokens.now) }
 {
     let (_, rest) = token(tokens, Symbol::Comma)?;
     read(alloc, rest)

@@ -37,7 +37,8 @@ pub fn parse(alloc: Global, tokens: &[Token]) -> Result<File, ParseFault>
     requires { IsTokenList tokens.now }
     ensures file { IfOk result (λ file. IsParsedAs tokens.now file) }
     ensures fault { IfErr result (λ fault. OnFault fault (λ place kind. IsRefusedAt tokens.now place kind)) }
-    ensures never_refused { (file : File) → IsParsedAs tokens.now file → IfErr result (λ fault. fault ≡ ParseFault.OutOfMemory) }
+    ensures never_refused { (file : File) → IsParsedAs tokens.now file
+        → IfErr result (λ fault. fault ≡ ParseFault.OutOfMemory) }
     ensures never_read { (place : Place) (kind : FaultKind) → IsRefusedAt tokens.now place kind → IsErr result }
     ensures shallow { IfOk result (λ file. IfSome file.root (λ root. depth_of root ≤ most_depth)) }
     ensures members { IfOk result (λ file. IfSome file.root EachGroupHasMembers) }

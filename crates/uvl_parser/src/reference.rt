@@ -27,7 +27,8 @@ pub(crate) fn reference(alloc: Global, tokens: &[Token]) -> Result<(Ref, &[Token
 
 /// Reads the names behind dots, and puts them behind the others.
 fn dot_names<'a>(parts: &mut Names, tokens: &'a [Token]) -> Result<&'a [Token], Stop>
-    ensures { Gives (λ rest. (parts.new, rest.now)) result (with_front parts.old (many (is_symbol Dot) dot_name tokens.now)) }
+    ensures { Gives (λ rest. (parts.new, rest.now)) result
+        (with_front parts.old (many (is_symbol Dot) dot_name tokens.now)) }
 {
     let mut rest = tokens;
     for _turn in 0..tokens.len() {

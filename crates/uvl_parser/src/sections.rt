@@ -2,8 +2,7 @@
 //! of `constraints`.
 ghost use Rattle.std.specs.Prelude.{◌≡◌, Ok, Err, Some, None};
 ghost use Rattle.uvl_base.specs.declared.word.Word.TheVariants.{Imports, Constraints};
-ghost use Rattle.uvl_parser.specs.steps.Gives.{Gives, IsReader};
-ghost use Rattle.uvl_grammar.specs.steps.Reading.{Reader};
+ghost use Rattle.uvl_parser.specs.steps.Gives.{Gives, GivesWith};
 ghost use Rattle.uvl_grammar.specs.steps.Sections.{namespace, alias, import_line, features, rule, section};
 
 use crate::expression::expression;
@@ -59,7 +58,7 @@ pub(crate) fn section<T: Drop, F: Fn(Global, &[Token]) -> Result<(T, &[Token]), 
     tokens: &[Token],
 ) -> Result<(Items<T>, &[Token]), Stop>
     requires { F.IsAlwaysCallable line }
-    ensures { (p : Reader T) → IsReader (F.post line) p → Gives (λ r. (r.0, r.1.now)) result (section name p tokens.now) }
+    ensures { GivesWith (F.post line) (λ r. (r.0, r.1.now)) result (λ p. section name p tokens.now) }
 {
     if begins_with(tokens, name) {
         let (_, rest) = token(tokens, name)?;

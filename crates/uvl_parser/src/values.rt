@@ -83,7 +83,7 @@ pub(crate) fn attribute(alloc: Global, tokens: &[Token]) -> Result<(Attribute, &
     attribute_at(alloc, tokens, tokens.len() + 1)
 }
 
-/// Reads an attribute whose value nests to fewer than `depth` levels.
+/// Reads an attribute whose value nests less than `depth` deep.
 #[cycle(values)]
 #[tactic(auto, unfolding(uvl_grammar::specs::steps::Values::attribute_with, uvl_grammar::specs::steps::Reading::choose, uvl_grammar::specs::steps::Reading::bind, uvl_grammar::specs::steps::Reading::done))]
 fn attribute_at(
@@ -104,7 +104,7 @@ fn attribute_at(
     }
 }
 
-/// Reads a value that nests to fewer than `depth` levels.
+/// Reads a value that nests less than `depth` deep.
 #[cycle(values)]
 #[tactic(auto, unfolding(uvl_grammar::specs::steps::Values::value_at, uvl_grammar::specs::steps::Values::value_with, uvl_grammar::specs::steps::Reading::choose, uvl_grammar::specs::steps::Reading::bind, uvl_grammar::specs::steps::Reading::done))]
 fn value_at(alloc: Global, tokens: &[Token], depth: usize) -> Result<(AttrValue, &[Token]), Stop>

@@ -1,9 +1,13 @@
 -- Reading language levels, the lines of `include`, whose texts are built as their tokens are read.
-use Rattle.std.specs.Prelude.{◌≡◌, ℕ, Bool, true, false, List, [], ◌++◌, Ok, Option, Some, None}
+use Rattle.std.specs.Prelude.{◌≡◌, ℕ, Bool, true, false, List, [], ◌++◌, Ok, Option, Some, None, String, string_bytes, chars}
 use Rattle.uvl_grammar.specs.steps.Tests.{is_newline}
 use Rattle.uvl_grammar.specs.Sections.{joined}
 use Rattle.uvl_grammar.specs.steps.Reading.{Read, Reader, ◌>>=◌, done, bind, one, many}
 use Rattle.uvl_grammar.specs.steps.Sections.{is_level_part, level_token}
+
+-- the characters of a text that is being built
+abbrev pub characters_of : {A : Type 0} → String A → List ℕ
+characters_of text = chars (string_bytes text)
 
 -- a text behind another
 abbrev pub text_onto : List ℕ → Read (List ℕ) → Read (List ℕ)
