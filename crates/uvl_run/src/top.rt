@@ -111,8 +111,8 @@ fn answer_by_model<F: Files, S: Source, K: Sink>(
     requires groups { GroupsAreMandatoryOrOptional model }
     requires least { least_budget ≤ budget }
     requires most { budget ≤ most_budget }
-    ensures answers { (words : List (List ℕ)) (path : List ℕ) → NamesModel words path budget → IsLoaded (F.told files.old) path model
-        → Answers words (F.told files.old)
+    ensures answers { (words : List (List ℕ)) (path : List ℕ) → NamesModel words path budget →
+        IsLoaded (F.told files.old) path model → Answers words (F.told files.old)
         (seen (S.left input.old) (K.written out.old) (F.faults files.old) (S.faults input.old) (K.faults out.old))
         (seen (S.left input.new) (K.written out.new) (F.faults files.new) (S.faults input.new) (K.faults out.new)) result }
     ensures same_files { F.told files.new ≡ F.told files.old }
