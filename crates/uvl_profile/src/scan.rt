@@ -190,8 +190,7 @@ impl Scan {
         let opens = self.opens_list(front, kind);
         let begins = self.begins_rule(part, opens, kind);
         self.nodes = nodes_behind(self.nodes, begins, ends_rule(kind), is_node(front, kind));
-        self.list = opens
-            || self.list && !kind.is_symbol(Symbol::RightBracket) && !is_layout(kind);
+        self.list = opens || self.list && !kind.is_symbol(Symbol::RightBracket) && !is_layout(kind);
         self.part = part;
         if is_layout(kind) {
             self.nesting.end_line();
