@@ -10,16 +10,16 @@ use Rattle.dd_store.proofs.AlikeLemmas.{alike-equivalence}
 use Rattle.dd_store.proofs.FreeLemmas.{free-fixed, free-same}
 use Rattle.dd_store.proofs.SizeLemmas.{In, in_parts, in_left, in_right, filter_same, count_more, count_stands}
 
-all-both : {X : Type 0} (P : X → Type 0) (xs ys : List X) → AllByRecursion P xs → AllByRecursion P ys → AllByRecursion P (xs ++ ys)
+pub all-both : {X : Type 0} (P : X → Type 0) (xs ys : List X) → AllByRecursion P xs → AllByRecursion P ys → AllByRecursion P (xs ++ ys)
 all-both P [] ys front back = back
 all-both P (x ∷ xs) ys front back = (front.0, all-both P xs ys front.1 back)
 
-map-itself : {X : Type 0} (xs : List X) → map (λ x. x) xs ≡ xs
+pub map-itself : {X : Type 0} (xs : List X) → map (λ x. x) xs ≡ xs
 map-itself [] = refl
 map-itself (x ∷ xs) = ap (λ ys. x ∷ ys) (map-itself xs)
 
 module _ (v : Var) where
-  alike-last : (vs : List Var) (f g : Function) → IsFreeOf v.0 f → IsFreeOf v.0 g → alike (vs ++ v ∷ []) f g ≡ alike vs f g
+  pub alike-last : (vs : List Var) (f g : Function) → IsFreeOf v.0 f → IsFreeOf v.0 g → alike (vs ++ v ∷ []) f g ≡ alike vs f g
   alike-last [] f g free_f free_g =
       ap (λ (p : Function). alike [] p (fixed g v.0 false) && alike [] (fixed f v.0 true) (fixed g v.0 true)) (free-same f v.0 false free_f)
       ∙ ap (λ (p : Function). alike [] f p && alike [] (fixed f v.0 true) (fixed g v.0 true)) (free-same g v.0 false free_g)
@@ -84,7 +84,7 @@ module _ (v : Var) where
   ]
 
   -- none of what is given depends on the variable
-  cofactors-free-of : (vs : List Var) (f : Function) → IsFreeOf v.0 f → AllByRecursion (IsFreeOf v.0) (cofactors vs f)
+  pub cofactors-free-of : (vs : List Var) (f : Function) → IsFreeOf v.0 f → AllByRecursion (IsFreeOf v.0) (cofactors vs f)
   cofactors-free-of [] f free = (free, tt)
   cofactors-free-of (u ∷ us) f free = (
     free,

@@ -16,3 +16,4 @@ pub mod LastLemmas
 pub mod LevelLemmas
 pub mod ShortLemmas
 pub mod LevelReachedLemmas
+pub mod LevelAgainLemmas

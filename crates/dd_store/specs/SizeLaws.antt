@@ -36,6 +36,12 @@ CofactorsAddNothing =
     (order : List Var) (fs : List Function) (f c : Function) → Contains fs f → Contains (cofactors order f) c →
     size order (c ∷ fs) ≡ size order fs
 
+-- also at each level
+abbrev pub CofactorsAddNothingAtLevels : Type 0
+CofactorsAddNothingAtLevels =
+    (order : List Var) (fs : List Function) (f c : Function) (i : ℕ) →
+    Contains fs f → Contains (cofactors order f) c → level_size order (c ∷ fs) i ≡ level_size order fs i
+
 -- a function doesn't depend on a variable
 abbrev pub IsFreeOf : ℕ → Function → Type 0
 IsFreeOf v f = (a : ℕ → Bool) (b : Bool) → fixed f v b a ≡ f a
@@ -45,6 +51,12 @@ abbrev pub LastVariableAddsNothing : Type 0
 LastVariableAddsNothing =
     (order : List Var) (v : Var) (fs : List Function) → All (IsFreeOf v.0) fs →
     size (order ++ v ∷ []) fs ≡ size order fs
+
+-- nor at any level
+abbrev pub LastVariableAddsNothingAtLevels : Type 0
+LastVariableAddsNothingAtLevels =
+    (order : List Var) (v : Var) (fs : List Function) (i : ℕ) → All (IsFreeOf v.0) fs →
+    level_size (order ++ v ∷ []) fs i ≡ level_size order fs i
 
 -- the value of a constant or node, as a function
 abbrev pub function_of : List Var → (ℕ → Option Row) → ℕ → Function

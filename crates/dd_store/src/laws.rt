@@ -2,6 +2,7 @@
 ghost use Rattle.dd_store.specs.Law.{ChangesCompose, ValuesTellLevels};
 ghost use Rattle.dd_store.specs.Short.{ShortIsBounded, ShortStays};
 ghost use Rattle.dd_store.specs.SizeLaws.{CofactorsAddNothing, LastVariableAddsNothing, MoreIsNotSmaller};
+ghost use Rattle.dd_store.specs.SizeLaws.{CofactorsAddNothingAtLevels, LastVariableAddsNothingAtLevels};
 ghost use Rattle.dd_store.specs.SizeLaws.{LevelsAreBounded, MoreIsNotSmallerAtLevels, SizeIsBounded};
 ghost use Rattle.dd_store.specs.SizeLaws.{ReachedIsLevelSize, ReachedIsSize};
 
@@ -33,14 +34,16 @@ pub fn size_is_bounded()
     ensures levels { LevelsAreBounded }
 {}
 
-/// What a function of a list gives by fixing the first variables counts with it.
+/// What a function of a list gives by fixing the first variables counts with it, also at each level.
 pub fn cofactors_add_nothing()
-    ensures { CofactorsAddNothing }
+    ensures size { CofactorsAddNothing }
+    ensures levels { CofactorsAddNothingAtLevels }
 {}
 
-/// A last variable on which nothing depends adds nothing.
+/// A last variable on which nothing depends adds nothing, at no level.
 pub fn last_variable_adds_nothing()
-    ensures { LastVariableAddsNothing }
+    ensures size { LastVariableAddsNothing }
+    ensures levels { LastVariableAddsNothingAtLevels }
 {}
 
 /// A budget that is too small stays so for more functions, and is so only below a bound.
