@@ -61,7 +61,10 @@ fn model_in(alloc: Global, text: &str) -> Option<Model>
 {
     let tokens = tokens_of(alloc, text)?;
     let file = parse(alloc, &tokens).ok()?;
-    resolve(alloc, &file).ok()
+    match resolve(alloc, &file) {
+        Ok(model) => Some(model),
+        Err(_) => None,
+    }
 }
 
 /// The diagram of a model's products.

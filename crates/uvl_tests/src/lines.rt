@@ -5,11 +5,12 @@ ghost use Rattle.uvl_script.specs.declared.command.Command.{Command as CommandVa
 use std::alloc::Global;
 use std::process::Abort;
 use std::test::Fail;
-use uvl_lines::{AnswerFault, Answerer, Ending, answer_lines};
+use uvl_lines::{AnswerFault, Answerer, Ending, answer_lines, push_refusal};
 use uvl_outside::{FetchFault, Files, MemFiles, MemSink, MemSource};
 use uvl_script::Command;
 
-/// Answers `valid` with how many commands it has answered, and `void` with the file `m`.
+/// Answers `valid` alone with how many commands it has answered, `valid` with names with a refusal, and
+/// `void` with the file `m`.
 #[derive(Drop)]
 struct Counter {
     count: u8,
@@ -35,6 +36,7 @@ impl Answerer for Counter {
                 Err(FetchFault::Failed) => Err(AnswerFault::FetchFailed),
                 Err(FetchFault::OutOfMemory) => Err(AnswerFault::OutOfMemory),
             },
+            Command::Valid(names) if !names.is_empty() => Ok(push_refusal("names", into)?),
             Command::Valid(_) => {
                 into.extend_from_slice(&[b'0' + self.count % 10, b'\n', b'.', b'\n'])?;
                 Ok(())
@@ -49,10 +51,10 @@ type Row<'a> = (&'a [u8], [&'a [u64]; 3], Ending, &'a [u8]);
 const ROWS: [Row; 7] = [
     (b"", [&[], &[], &[]], Ending::Done, b""),
     (
-        b"valid\nvoid\r\n\n# note\nvalid A",
+        b"valid\nvoid\r\n\n# note\nvalid A\nvalid",
         [&[], &[], &[]],
         Ending::Done,
-        b"1\n.\nfile\n.\n3\n.\n",
+        b"1\n.\nfile\n.\nrefused names\n.\n4\n.\n",
     ),
     (
         b"x\nvalid \"A\nvalid\n\xFF\n",
