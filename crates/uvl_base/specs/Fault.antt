@@ -76,7 +76,8 @@ name_of NotBuilt = codes "NotBuilt"
 
 -- a kind of fault as it is printed: `E`, two digits, a space and the name
 unfoldable pub kind_text : FaultKind → List ℕ
-kind_text kind = codes "E" ++ decimal (number_of kind / 10) ++ decimal (number_of kind % 10) ++ codes " " ++ name_of kind
+kind_text kind =
+    codes "E" ++ decimal (number_of kind / 10) ++ decimal (number_of kind % 10) ++ codes " " ++ name_of kind
 
 -- a fault as it is printed: the file, the line and the column between colons, a space and the kind
 unfoldable pub fault_text : ModelFault → List ℕ

@@ -30,7 +30,8 @@ decimals cs = after_first is_point (unsigned cs)
 -- digits, or digits that may be missing, a point and digits
 abbrev pub is_unsigned_number : Bool → List ℕ → List ℕ → Bool
 is_unsigned_number has_point whole behind =
-    list_all is_ascii_digit whole && list_all is_ascii_digit behind && not (length (if has_point then behind else whole) == 0)
+    list_all is_ascii_digit whole && list_all is_ascii_digit behind
+    && not (length (if has_point then behind else whole) == 0)
 
 -- a number is written `-`? digits, or `-`? digits? `.` digits
 abbrev pub is_number : List ℕ → Bool
@@ -42,7 +43,8 @@ is_too_wide cs = nat_lt most_whole_digits (length (whole_digits cs)) || nat_lt m
 
 -- the millionths that whole digits and decimals write
 abbrev pub millionths_of_digits : List ℕ → List ℕ → ℕ
-millionths_of_digits whole behind = digits_value 10 whole * 1000000 + digits_value 10 behind * 10 ^ (most_decimals - length behind)
+millionths_of_digits whole behind =
+    digits_value 10 whole * 1000000 + digits_value 10 behind * 10 ^ (most_decimals - length behind)
 
 -- the number of millionths that is written
 abbrev pub millionths_of : List ℕ → ℤ

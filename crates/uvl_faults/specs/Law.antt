@@ -15,11 +15,13 @@ nodes_among before (t ∷ ts) = one_if (is_node before t.kind) + nodes_among (t 
 -- where a rule begins behind a token, as many of its tokens are where a node stands as its tree has nodes
 abbrev pub TokensTellNodes : Type 0
 TokensTellNodes =
-    (before : List Token) (t : Token) (tokens : List Token) (rule : Expr) → rule_behind before t ≡ true → SpellsExpr tokens rule
+    (before : List Token) (t : Token) (tokens : List Token) (rule : Expr) → rule_behind before t ≡ true
+    → SpellsExpr tokens rule
     → nodes_among (t ∷ before) tokens ≡ nodes_of rule
 
 -- and all of them are counted behind its tokens
 abbrev pub NodesAreCounted : Type 0
 NodesAreCounted =
-    (before : List Token) (t : Token) (tokens : List Token) (rule : Expr) → rule_behind before t ≡ true → SpellsExpr tokens rule
+    (before : List Token) (t : Token) (tokens : List Token) (rule : Expr) → rule_behind before t ≡ true
+    → SpellsExpr tokens rule
     → rule_nodes (reverse tokens ++ t ∷ before) ≡ Some (nodes_of rule)

@@ -32,7 +32,8 @@ pub data SpellsFeature (Member : Spelling Feature) : List Token → Feature → 
       → SpellsBoolean bs → SpellsRef xs r → SpellsBraces ys entries → IsNewline newline
       → Body (SpellsGroup Member) zs groups
       → SpellsFeature Member (bs ++ xs ++ ys ++ newline ∷ zs)
-      (roll-Feature (record { name = r; attributes = attributes_of entries; rules = rules_of entries; groups = groups }))
+      (roll-Feature
+      (record { name = r; attributes = attributes_of entries; rules = rules_of entries; groups = groups }))
 
 -- a feature that nests less than so deep, itself counted
 abbrev pub FeatureWithin : ℕ → Spelling Feature

@@ -19,4 +19,5 @@ pub data Spells : List Token → File → Type 0 where
       → SpellsSection word.Imports SpellsImport ms imports → SpellsFeatures fs root
       → SpellsSection word.Constraints SpellsRule rs rules → IsFinish finish
       → Spells (ns ++ ls ++ ms ++ fs ++ rs ++ finish ∷ [])
-      (record { namespace = namespace; levels = levels; imports = imports; root = root; rules = rules; finish = finish.place })
+      (record {
+        namespace = namespace; levels = levels; imports = imports; root = root; rules = rules; finish = finish.place })

@@ -6,4 +6,5 @@ use Rattle.uvl_grammar.specs.File.{Spells}
 
 -- a list of tokens spells at most one file
 abbrev pub EachListSpellsOneFile : Type 0
-EachListSpellsOneFile = (tokens : List Token) (file other : File) → Spells tokens file → Spells tokens other → other ≡ file
+EachListSpellsOneFile =
+    (tokens : List Token) (file other : File) → Spells tokens file → Spells tokens other → other ≡ file

@@ -86,7 +86,8 @@ IsLineBreak spelling = (spelling ≡ 10 ∷ []) ⊎ (spelling ≡ 13 ∷ 10 ∷ 
 
 -- a comment on a line: `//` (47, 47) and characters but LF
 abbrev pub IsLineComment : List ℕ → Type 0
-IsLineComment spelling = (inside : List ℕ) × (spelling ≡ 47 ∷ 47 ∷ inside) × IsTrue (list_all (λ c. not (c == 10)) inside)
+IsLineComment spelling =
+    (inside : List ℕ) × (spelling ≡ 47 ∷ 47 ∷ inside) × IsTrue (list_all (λ c. not (c == 10)) inside)
 
 -- a comment in `/*` (47, 42) and the next `*/`
 abbrev pub IsBlockComment : List ℕ → Type 0
@@ -112,7 +113,8 @@ opens_comment (c ∷ cs) = c == 47 && (begins_with 47 cs || begins_with 42 cs)
 -- What follows a piece matters in two cases. `//` and `/*` always begin a comment, so no symbol is taken at their
 -- front. A line may end with CR and LF, which belong together, so no comment ends between the two.
 abbrev pub MayStandBefore : PieceKind → List ℕ → List ℕ → Type 0
-MayStandBefore piece.Comment spelling rest = (front behind : List ℕ) → spelling ≡ front ++ 13 ∷ [] → rest ≡ 10 ∷ behind → ⊥
+MayStandBefore piece.Comment spelling rest =
+    (front behind : List ℕ) → spelling ≡ front ++ 13 ∷ [] → rest ≡ 10 ∷ behind → ⊥
 MayStandBefore (piece.Lexeme (spells.Symbol s)) spelling rest = IsFalse (opens_comment (spelling ++ rest))
 MayStandBefore _ spelling rest = ⊤
 
@@ -130,4 +132,5 @@ NoneBegins text = (kind : PieceKind) (spelling : List ℕ) → BeginsText kind s
 -- a piece stands at the front of a text, and no longer one does
 pub record IsLongest (kind : PieceKind) (spelling text : List ℕ) : Type 0 where
   pub begins : BeginsText kind spelling text
-  pub longest : (other : PieceKind) (characters : List ℕ) → BeginsText other characters text → length characters ≤ length spelling
+  pub longest : (other : PieceKind) (characters : List ℕ) → BeginsText other characters text
+      → length characters ≤ length spelling

@@ -21,7 +21,8 @@ is_deeper indentation indentations = nat_lt (innermost indentations) indentation
 
 -- another has to meet an open one
 abbrev pub is_aligned : ℕ → List ℕ → Bool
-is_aligned indentation indentations = is_deeper indentation indentations || innermost (kept_by indentation indentations) == indentation
+is_aligned indentation indentations =
+    is_deeper indentation indentations || innermost (kept_by indentation indentations) == indentation
 
 -- the indentations that are open behind the first token of a line
 abbrev pub indentations_behind : ℕ → List ℕ → List ℕ

@@ -38,7 +38,8 @@ word_or_name None cs = token.Name cs false
 abbrev pub token_of : Lexeme → List ℕ → TokenKind
 token_of spells.Identifier cs = word_or_name (word_of (encode_utf8_all cs)) cs
 token_of spells.Quoted cs = token.Name (inner cs) true
-token_of spells.Number cs = token.Number (millionths_of (encode_utf8_all cs)) (not (list_any is_point (encode_utf8_all cs)))
+token_of spells.Number cs =
+    token.Number (millionths_of (encode_utf8_all cs)) (not (list_any is_point (encode_utf8_all cs)))
 token_of spells.Text cs = token.Text (inner cs)
 token_of (spells.Symbol s) cs = token.Symbol s
 
@@ -112,7 +113,8 @@ unit_onto piece.Space cs brackets position after rest = rest
 unit_onto piece.Tab cs brackets position after rest = rest
 unit_onto piece.Comment cs brackets position after rest = rest
 unit_onto piece.Break cs brackets position after rest = break_onto brackets position rest
-unit_onto (piece.Lexeme l) cs brackets position after rest = token_onto (refusal_of l cs brackets) position (token_of l cs) after rest
+unit_onto (piece.Lexeme l) cs brackets position after rest =
+    token_onto (refusal_of l cs brackets) position (token_of l cs) after rest
 
 -- a bracket that is open at the end is not closed
 abbrev pub end_of : List Bracket → Position → Units
@@ -153,7 +155,8 @@ dedents indentation indentations p = replicate (closed_by indentation indentatio
 -- the layout tokens in front of the first token of a line: Indent where it opens an indentation, else a Dedent for each
 -- that it closes
 abbrev pub line_layout : List ℕ → Position → List Token
-line_layout indentations p = if is_deeper p.reach indentations then unspelled_at token.Indent p ∷ [] else dedents p.reach indentations p
+line_layout indentations p =
+    if is_deeper p.reach indentations then unspelled_at token.Indent p ∷ [] else dedents p.reach indentations p
 
 -- ---- lines
 
@@ -201,12 +204,16 @@ lines_from begun (Spelled p kind after rest) = lines_from (with_token begun p (t
 abbrev pub laid_out : List ℕ → Lines → Lexed
 laid_out indentations (NoMore p) = Ok (dedents 0 indentations p ++ unspelled_at token.Finish p ∷ [])
 laid_out indentations (Unreadable p kind) = Err (place_of p, kind)
-laid_out indentations (RefusedFirst p kind) = if is_aligned p.reach indentations then Err (place_of p, kind) else Err (place_of p, BadIndent)
+laid_out indentations (RefusedFirst p kind) =
+    if is_aligned p.reach indentations then Err (place_of p, kind) else Err (place_of p, BadIndent)
 laid_out indentations (Line first tokens end rest) =
     if is_aligned first.reach indentations
-    then tokens_onto (line_layout indentations first ++ tokens ++ unspelled_at token.Newline end ∷ []) (laid_out (indentations_behind first.reach indentations) rest)
+    then tokens_onto
+        (line_layout indentations first ++ tokens ++ unspelled_at token.Newline end ∷ [])
+        (laid_out (indentations_behind first.reach indentations) rest)
     else Err (place_of first, BadIndent)
-laid_out indentations (BrokenOff first p kind) = if is_aligned first.reach indentations then Err (place_of p, kind) else Err (place_of first, BadIndent)
+laid_out indentations (BrokenOff first p kind) =
+    if is_aligned first.reach indentations then Err (place_of p, kind) else Err (place_of first, BadIndent)
 
 -- ---- the whole text
 

@@ -29,7 +29,8 @@ read_as (p ∷ ps) left = piece_onto p.0 p.1 (read_as ps left)
 
 -- the piece that is read at a place is the longest that begins there, and none is read where none begins
 abbrev pub EachPieceIsTheLongest : Type 0
-EachPieceIsTheLongest = (text : List ℕ) → MatchOption (piece_at text) (NoneBegins text) (λ p. IsLongest p.0 (take p.1 text) text)
+EachPieceIsTheLongest =
+    (text : List ℕ) → MatchOption (piece_at text) (NoneBegins text) (λ p. IsLongest p.0 (take p.1 text) text)
 
 -- a text is cut as far as pieces go, and so it is read; no other cut of it goes as far
 pub record IsCutOnce (text : List ℕ) : Type 0 where
@@ -38,7 +39,8 @@ pub record IsCutOnce (text : List ℕ) : Type 0 where
   pub is_cut : IsCut pieces left text
   pub ends : NoneBegins left
   pub read : cut text ≡ read_as pieces left
-  pub one : (others : List SpelledPiece) (rest : List ℕ) → IsCut others rest text → NoneBegins rest → (others ≡ pieces) × (rest ≡ left)
+  pub one : (others : List SpelledPiece) (rest : List ℕ) → IsCut others rest text → NoneBegins rest
+      → (others ≡ pieces) × (rest ≡ left)
 
 -- every text has one cut
 abbrev pub EachTextIsCutOnce : Type 0
@@ -52,11 +54,13 @@ laid_by text pieces left = laid_out [] (lines_from None (units_of (front_of text
 abbrev pub TokensAreOfACut : Type 0
 TokensAreOfACut =
     (text : List ℕ) (tokens : List Token)
-    → Tokens text tokens ↔ ((pieces : List SpelledPiece) × IsCut pieces [] (after_mark text) × (laid_by text pieces [] ≡ Ok tokens))
+    → Tokens text tokens ↔ ((pieces : List SpelledPiece) × IsCut pieces [] (after_mark text)
+    × (laid_by text pieces [] ≡ Ok tokens))
 
 -- a text stops behind a cut that goes as far as pieces go, or within it
 abbrev pub StopsAreOfACut : Type 0
 StopsAreOfACut =
     (text : List ℕ) (place : Place) (kind : FaultKind)
     → Stops text place kind
-    ↔ ((pieces : List SpelledPiece) × (left : List ℕ) × IsCut pieces left (after_mark text) × NoneBegins left × (laid_by text pieces left ≡ Err (place, kind)))
+    ↔ ((pieces : List SpelledPiece) × (left : List ℕ) × IsCut pieces left (after_mark text) × NoneBegins left
+        × (laid_by text pieces left ≡ Err (place, kind)))

@@ -105,7 +105,8 @@ text_at cs =
 -- how many characters a point and the digits behind it have, or none where no digit follows a point
 abbrev pub decimals_len : List ℕ → ℕ
 decimals_len [] = 0
-decimals_len (c ∷ cs) = if c == 46 then (if prefix_len (is_of_class Digit) cs == 0 then 0 else prefix_len (is_of_class Digit) cs + 1) else 0
+decimals_len (c ∷ cs) =
+    if c == 46 then (if prefix_len (is_of_class Digit) cs == 0 then 0 else prefix_len (is_of_class Digit) cs + 1) else 0
 
 -- behind a digit: the other digits, and a point with digits
 abbrev pub number_at : List ℕ → Piece

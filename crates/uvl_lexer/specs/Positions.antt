@@ -17,10 +17,14 @@ place_of p = record { line = p.line; column = p.column }
 -- indentation it reaches the next multiple of 8, and any other character one column more.
 abbrev pub behind : PieceKind → Position → ℕ → ℕ → Position
 behind piece.Break p count size = record { byte = p.byte + size; line = p.line + 1; column = 1; reach = 0 }
-behind piece.Tab p count size = record { byte = p.byte + size; line = p.line; column = p.column + 1; reach = (p.reach / 8 + 1) * 8 }
-behind piece.Space p count size = record { byte = p.byte + size; line = p.line; column = p.column + count; reach = p.reach + count }
-behind piece.Comment p count size = record { byte = p.byte + size; line = p.line; column = p.column + count; reach = p.reach + count }
-behind (piece.Lexeme l) p count size = record { byte = p.byte + size; line = p.line; column = p.column + count; reach = p.reach + count }
+behind piece.Tab p count size =
+    record { byte = p.byte + size; line = p.line; column = p.column + 1; reach = (p.reach / 8 + 1) * 8 }
+behind piece.Space p count size =
+    record { byte = p.byte + size; line = p.line; column = p.column + count; reach = p.reach + count }
+behind piece.Comment p count size =
+    record { byte = p.byte + size; line = p.line; column = p.column + count; reach = p.reach + count }
+behind (piece.Lexeme l) p count size =
+    record { byte = p.byte + size; line = p.line; column = p.column + count; reach = p.reach + count }
 
 -- behind a byte order mark, which has three bytes and no column
 abbrev pub behind_mark : Position → Position

@@ -34,7 +34,8 @@ Ends R F s input taken said TooMuch =
 Ends R F s input taken said InputFailed =
     (length taken ≤ most_script_bytes) × IsAnswered R s (ended_lines taken) said
 Ends R F s input taken said FetchFailed =
-    (length taken ≤ most_script_bytes) × (lines : List (List ℕ)) × AreLinesOf input taken lines × Breaks R F s lines said
+    (length taken ≤ most_script_bytes) × (lines : List (List ℕ)) × AreLinesOf input taken lines
+    × Breaks R F s lines said
 Ends R F s input taken said WriteFailed =
     (length taken ≤ most_script_bytes) × (lines : List (List ℕ)) × AreLinesOf input taken lines × Stops R s lines said
 Ends R F s input taken said NoMemory =

@@ -29,7 +29,8 @@ abbrev mutual
   pub groups_fit : Groups → List (List ℕ) → Bool
   groups_fit no_groups set = true
   groups_fit (group lo hi members others) set =
-      nat_le lo (chosen_count members set) && nat_le (chosen_count members set) hi && members_fit members set && groups_fit others set
+      nat_le lo (chosen_count members set) && nat_le (chosen_count members set) hi && members_fit members set
+      && groups_fit others set
 
   -- each member's tree fits, or is absent where the member is
   pub members_fit : Members → List (List ℕ) → Bool

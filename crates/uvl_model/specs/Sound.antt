@@ -23,7 +23,8 @@ abbrev mutual
   -- each of the groups, and those below them
   pub AreBounded : Groups → Type 0
   AreBounded no_groups = ⊤
-  AreBounded (group lo hi members others) = HasBounds lo hi (member_count members) × MembersAreBounded members × AreBounded others
+  AreBounded (group lo hi members others) =
+      HasBounds lo hi (member_count members) × MembersAreBounded members × AreBounded others
 
   -- each group of the members' trees
   pub MembersAreBounded : Members → Type 0

@@ -18,12 +18,14 @@ pub record KeepsLimits (file : File) : Type 0 where
 
 -- no fault is met by the tokens alone: nothing that isn't taken, and no bracket or `!` that nests too deep
 abbrev pub NoneMet : List Token → Type 0
-NoneMet tokens = (k : ℕ) (t : Token) (kind : FaultKind) → slice_get tokens k ≡ Some t → IsMet (in_front k tokens) t kind → ⊥
+NoneMet tokens =
+    (k : ℕ) (t : Token) (kind : FaultKind) → slice_get tokens k ≡ Some t → IsMet (in_front k tokens) t kind → ⊥
 
 -- a file that keeps the limits, and in whose tokens no fault is met, is what they are parsed as
 abbrev pub FilesWithinLimitsAreParsed : Type 0
 FilesWithinLimitsAreParsed =
-    (tokens : List Token) (file : File) → Spells tokens file → KeepsLimits file → NoneMet tokens → IsParsedAs tokens file
+    (tokens : List Token) (file : File) → Spells tokens file → KeepsLimits file → NoneMet tokens
+    → IsParsedAs tokens file
 
 -- and every file that tokens are parsed as keeps them
 abbrev pub ParsedFilesKeepLimits : Type 0

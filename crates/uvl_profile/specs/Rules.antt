@@ -63,7 +63,8 @@ is_node before _ = false
 
 -- whether a token is the bracket of `constraints [`
 abbrev pub opens_list : List Token → TokenKind → Bool
-opens_list before kind = is_symbol symbol.LeftBracket kind && begins (is_word word.Constraints) before && is_in Features before
+opens_list before kind =
+    is_symbol symbol.LeftBracket kind && begins (is_word word.Constraints) before && is_in Features before
 
 -- whether what follows stands in such brackets
 abbrev pub in_list : List Token → Bool
@@ -82,7 +83,8 @@ rule_behind before t =
 -- what stands in no rule
 abbrev pub ends_rule : Test
 ends_rule kind =
-    is_layout kind || is_symbol symbol.Comma kind || is_symbol symbol.RightBracket kind || is_symbol symbol.RightBrace kind
+    is_layout kind || is_symbol symbol.Comma kind || is_symbol symbol.RightBracket kind
+    || is_symbol symbol.RightBrace kind
 
 -- a rule with one node more, or with as many
 abbrev pub with_node : Bool → Option ℕ → Option ℕ

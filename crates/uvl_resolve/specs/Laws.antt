@@ -19,7 +19,9 @@ FilesHaveOneModel = (file : File) (first second : Rows) → Flat file first → 
 
 -- the products of the model that a file says are those of the file's tree
 abbrev pub FlatKeepsProducts : Type 0
-FlatKeepsProducts = (file : File) (rows : Rows) (tree : Tree) → Flat file rows → IsTreeOf file tree → Products rows ≡ ProductsOfTree tree
+FlatKeepsProducts =
+    (file : File) (rows : Rows) (tree : Tree) → Flat file rows → IsTreeOf file tree
+    → Products rows ≡ ProductsOfTree tree
 
 -- a file is built, or has a cause against it, and never both
 abbrev pub FilesAreBuiltOrHaveACause : Type 0

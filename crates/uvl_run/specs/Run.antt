@@ -47,8 +47,8 @@ pub record IsOverBudget (words : List (List ℕ)) (told : Option Contents) (tree
   pub short : budget < nodes_for tree
 
 -- the words name the model at the path, and it has the fault there
-pub record IsFaulty (words : List (List ℕ)) (told : Option Contents) (path : List ℕ) (place : Place) (kind : FaultKind) :
-    Type 0 where
+pub record IsFaulty (words : List (List ℕ)) (told : Option Contents) (path : List ℕ)
+    (place : Place) (kind : FaultKind) : Type 0 where
   pub budget : ℕ
   pub named : NamesModel words path budget
   pub faulty : LoadsFault told path place kind

@@ -38,13 +38,15 @@ pub fn run<F: Files, S: Source, K: Sink>(
     // What was written answers what was taken, as the status says, and the first fault ended the run.
     ensures answers { Answers (map (λ word. word.now) words.now) (F.told files.old)
         (seen (S.left input.old) (K.written out.old) (F.faults files.old) (S.faults input.old) (K.faults out.old))
-        (seen (S.left input.new) (K.written out.new) (F.faults files.new) (S.faults input.new) (K.faults out.new)) result }
+        (seen (S.left input.new) (K.written out.new) (F.faults files.new) (S.faults input.new) (K.faults out.new))
+        result }
 
     // Each status has its cause. Where a cause is, its status comes, unless a fault that was counted
     // or want of memory is in the way.
     ensures exactly { IsExact (map (λ word. word.now) words.now) (F.told files.old)
         (seen (S.left input.old) (K.written out.old) (F.faults files.old) (S.faults input.old) (K.faults out.old))
-        (seen (S.left input.new) (K.written out.new) (F.faults files.new) (S.faults input.new) (K.faults out.new)) result }
+        (seen (S.left input.new) (K.written out.new) (F.faults files.new) (S.faults input.new) (K.faults out.new))
+        result }
     ensures same_files { F.told files.new ≡ F.told files.old }
 {
     // A law, which is a fact for the proof.
@@ -63,7 +65,8 @@ fn answer_words<F: Files, S: Source, K: Sink>(
 ) -> Status
     ensures answers { Answers (map (λ word. word.now) words.now) (F.told files.old)
         (seen (S.left input.old) (K.written out.old) (F.faults files.old) (S.faults input.old) (K.faults out.old))
-        (seen (S.left input.new) (K.written out.new) (F.faults files.new) (S.faults input.new) (K.faults out.new)) result }
+        (seen (S.left input.new) (K.written out.new) (F.faults files.new) (S.faults input.new) (K.faults out.new))
+        result }
     ensures same_files { F.told files.new ≡ F.told files.old }
 {
     match read_words(alloc, words) {
@@ -88,7 +91,8 @@ fn answer_model<F: Files, S: Source, K: Sink>(
     requires most { budget ≤ most_budget }
     ensures answers { (words : List (List ℕ)) → NamesModel words path.now budget → Answers words (F.told files.old)
         (seen (S.left input.old) (K.written out.old) (F.faults files.old) (S.faults input.old) (K.faults out.old))
-        (seen (S.left input.new) (K.written out.new) (F.faults files.new) (S.faults input.new) (K.faults out.new)) result }
+        (seen (S.left input.new) (K.written out.new) (F.faults files.new) (S.faults input.new) (K.faults out.new))
+        result }
     ensures same_files { F.told files.new ≡ F.told files.old }
 {
     match load_model(alloc, files, path) {
@@ -114,7 +118,8 @@ fn answer_by_model<F: Files, S: Source, K: Sink>(
     ensures answers { (words : List (List ℕ)) (path : List ℕ) → NamesModel words path budget →
         IsLoaded (F.told files.old) path model → Answers words (F.told files.old)
         (seen (S.left input.old) (K.written out.old) (F.faults files.old) (S.faults input.old) (K.faults out.old))
-        (seen (S.left input.new) (K.written out.new) (F.faults files.new) (S.faults input.new) (K.faults out.new)) result }
+        (seen (S.left input.new) (K.written out.new) (F.faults files.new) (S.faults input.new) (K.faults out.new))
+        result }
     ensures same_files { F.told files.new ≡ F.told files.old }
 {
     if is_over_budget(&model, budget) {

@@ -20,9 +20,12 @@ ends_word (c ∷ cs) = is_separator c
 -- itself, or in double quotes for what is between them. A quoted word may hold separators.
 pub data IsMadeOf : List ℕ → List (List ℕ) → Type 0 where
   nothing : IsMadeOf [] []
-  gap : (c : ℕ) (text : List ℕ) (words : List (List ℕ)) → is_separator c ≡ true → IsMadeOf text words → IsMadeOf (c ∷ text) words
-  plain : (word text : List ℕ) (words : List (List ℕ)) → is_name word ≡ true → list_all is_solid word ≡ true → ends_word text ≡ true → IsMadeOf text words → IsMadeOf (word ++ text) (word ∷ words)
-  quoted : (word text : List ℕ) (words : List (List ℕ)) → is_name word ≡ true → ends_word text ≡ true → IsMadeOf text words → IsMadeOf (34 ∷ (word ++ 34 ∷ text)) (word ∷ words)
+  gap : (c : ℕ) (text : List ℕ) (words : List (List ℕ)) → is_separator c ≡ true → IsMadeOf text words
+      → IsMadeOf (c ∷ text) words
+  plain : (word text : List ℕ) (words : List (List ℕ)) → is_name word ≡ true → list_all is_solid word ≡ true
+      → ends_word text ≡ true → IsMadeOf text words → IsMadeOf (word ++ text) (word ∷ words)
+  quoted : (word text : List ℕ) (words : List (List ℕ)) → is_name word ≡ true → ends_word text ≡ true
+      → IsMadeOf text words → IsMadeOf (34 ∷ (word ++ 34 ∷ text)) (word ∷ words)
 
 -- where in a line a character stands
 pub data Place : Type 0 where
@@ -46,7 +49,8 @@ onto_first c (Some (word ∷ words)) = Some ((c ∷ word) ∷ words)
 -- is the first. None where a quote isn't closed, or is closed and no separator follows.
 abbrev pub cut : Place → List ℕ → Option (List (List ℕ))
 cut outside [] = Some []
-cut outside (c ∷ cs) = if is_separator c then cut outside cs else (if c == 34 then cut in_quotes cs else onto_first c (cut in_word cs))
+cut outside (c ∷ cs) =
+    if is_separator c then cut outside cs else (if c == 34 then cut in_quotes cs else onto_first c (cut in_word cs))
 cut in_word [] = Some ([] ∷ [])
 cut in_word (c ∷ cs) = if is_separator c then onto [] (cut outside cs) else onto_first c (cut in_word cs)
 cut in_quotes [] = None

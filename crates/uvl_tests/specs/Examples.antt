@@ -11,7 +11,8 @@ leaves (name ∷ names) = member (feature name no_groups) (leaves names)
 
 -- a car, its mandatory body and an optional radio
 abbrev pub thin_tree : Tree
-thin_tree = feature (codes "Car") (group 1 1 (leaves (codes "Body" ∷ [])) (group 0 1 (leaves (codes "Radio" ∷ [])) no_groups))
+thin_tree =
+    feature (codes "Car") (group 1 1 (leaves (codes "Body" ∷ [])) (group 0 1 (leaves (codes "Radio" ∷ [])) no_groups))
 
 -- a root with the group `[2..9]` over three members, of which hi becomes three
 abbrev pub two_or_three : Tree
@@ -21,7 +22,9 @@ two_or_three = feature (codes "R") (group 2 3 (leaves (codes "A" ∷ codes "B" �
 abbrev pub unfittable : Tree
 unfittable =
     feature (codes "R")
-    (group 0 1 (member (feature (codes "P") (group 4 3 (leaves (codes "A" ∷ codes "B" ∷ codes "C" ∷ [])) no_groups)) no_members) no_groups)
+    (group 0 1
+        (member (feature (codes "P") (group 4 3 (leaves (codes "A" ∷ codes "B" ∷ codes "C" ∷ [])) no_groups)) no_members)
+        no_groups)
 
 -- the same group below the root, so that no set has the root and fits
 abbrev pub void_tree : Tree

@@ -15,7 +15,8 @@ use Rattle.uvl_grammar.specs.steps.Expressions.{expression}
 -- rules in brackets
 unfoldable pub rule_list : Reader (List Expr)
 rule_list =
-    bind (one (is_symbol symbol.LeftBracket)) (λ left. bind (separated (is_symbol symbol.RightBracket) expression) (λ rules.
+    bind (one (is_symbol symbol.LeftBracket))
+    (λ left. bind (separated (is_symbol symbol.RightBracket) expression) (λ rules.
     bind (one (is_symbol symbol.RightBracket)) (λ right. done rules)))
 
 unfoldable pub entry : Reader Entry

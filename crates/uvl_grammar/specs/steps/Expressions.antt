@@ -37,7 +37,8 @@ joined left (o ∷ operations) = joined (join left o) operations
 -- parts with operators of one precedence between them
 unfoldable pub grouped : Operators → Reader Expr → Reader Expr
 grouped operators part =
-    bind part (λ left. bind (many (is_operator operators) (operation operators part)) (λ operations. done (joined left operations)))
+    bind part (λ left. bind (many (is_operator operators) (operation operators part))
+    (λ operations. done (joined left operations)))
 
 -- ---- numbers, sums, references and parentheses
 
@@ -77,7 +78,8 @@ primary_of inner =
 -- two parts with a comparison between them, or one part
 unfoldable pub compared : Reader Expr → Reader Expr
 compared part = bind part (λ left.
-    choose (is_operator comparison_operator) (bind (operation comparison_operator part) (λ o. done (join left o))) (done left))
+    choose (is_operator comparison_operator) (bind (operation comparison_operator part)
+    (λ o. done (join left o))) (done left))
 
 -- sums of products
 abbrev pub sum_of : Reader Expr → Reader Expr
@@ -94,7 +96,8 @@ connected part = grouped iff_operator (grouped implies_operator (grouped or_oper
 -- an operand of the connectives, with deeper behind a `!` and as the operands in parentheses
 unfoldable pub operand_of : Reader Expr → Reader Expr
 operand_of deeper =
-    choose (is_symbol symbol.Bang) (bind (one (is_symbol symbol.Bang)) (opposite deeper)) (compared (sum_of (connected deeper)))
+    choose (is_symbol symbol.Bang) (bind (one (is_symbol symbol.Bang)) (opposite deeper))
+    (compared (sum_of (connected deeper)))
 
 -- ---- where parentheses and `!` nest less than so deep
 

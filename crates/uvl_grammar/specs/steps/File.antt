@@ -7,7 +7,8 @@ use Rattle.uvl_grammar.specs.steps.Sections.{section, namespace, level, import_l
 
 unfoldable pub file : Reader File
 file =
-    bind namespace (λ name. bind (section word.Include level) (λ levels. bind (section word.Imports import_line) (λ imports.
+    bind namespace (λ name. bind (section word.Include level)
+    (λ levels. bind (section word.Imports import_line) (λ imports.
     bind features (λ root. bind (section word.Constraints rule) (λ rules. bind (one is_finish) (λ finish.
     done (record {
       namespace = name;

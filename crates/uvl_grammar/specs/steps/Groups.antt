@@ -28,7 +28,8 @@ upper lo =
 -- what is behind the lower bound: dots and an upper bound, or nothing
 unfoldable pub range_from : ℕ → Reader GroupKind
 range_from lo =
-    choose (is_symbol symbol.Dots) (bind (one (is_symbol symbol.Dots)) (λ dots. upper lo)) (done (group.Range lo (Some lo)))
+    choose (is_symbol symbol.Dots) (bind (one (is_symbol symbol.Dots))
+    (λ dots. upper lo)) (done (group.Range lo (Some lo)))
 
 -- a range in brackets
 unfoldable pub range : Reader GroupFront

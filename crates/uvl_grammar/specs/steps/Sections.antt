@@ -20,7 +20,8 @@ section w p = choose (is_word w) (bind (one (is_word w)) (λ place. bind (one is
 unfoldable pub namespace : Reader (Option Ref)
 namespace =
     choose (is_word word.Namespace)
-    (bind (one (is_word word.Namespace)) (λ place. bind reference (λ r. bind (one is_newline) (λ newline. done (Some r)))))
+    (bind (one (is_word word.Namespace)) (λ place. bind reference
+    (λ r. bind (one is_newline) (λ newline. done (Some r)))))
     (done None)
 
 -- whether a token belongs to a language level
@@ -35,7 +36,8 @@ unfoldable pub level : Reader (List ℕ)
 level = bind (one_or_more is_level_part level_token) (λ parts. bind (one is_newline) (λ newline. done (joined parts)))
 
 unfoldable pub alias : Reader (Option Ref)
-alias = choose (is_word word.As) (bind (one (is_word word.As)) (λ place. bind reference (λ r. done (Some r)))) (done None)
+alias =
+    choose (is_word word.As) (bind (one (is_word word.As)) (λ place. bind reference (λ r. done (Some r)))) (done None)
 
 -- a line of `imports`
 unfoldable pub import_line : Reader Import

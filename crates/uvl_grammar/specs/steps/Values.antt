@@ -23,7 +23,8 @@ value_of _ = None
 unfoldable pub simple_value : Reader AttrValue
 simple_value =
     choose (is_symbol symbol.Minus)
-    (bind (one (is_symbol symbol.Minus)) (λ minus. bind (accept number_of) (λ number. done (value.Number (neg_ℤ number.0)))))
+    (bind (one (is_symbol symbol.Minus)) (λ minus. bind (accept number_of)
+    (λ number. done (value.Number (neg_ℤ number.0)))))
     (bind (accept value_of) (λ v. done v.0))
 
 -- an attribute, whose value is read by p
@@ -50,7 +51,8 @@ vector_with p =
 unfoldable pub value_with : Reader AttrValue → Reader AttrValue
 value_with p =
     choose (is_symbol symbol.LeftBrace) (bind (one (is_symbol symbol.LeftBrace)) (λ left. list_with p))
-    (choose (is_symbol symbol.LeftBracket) (bind (one (is_symbol symbol.LeftBracket)) (λ left. vector_with p)) simple_value)
+    (choose (is_symbol symbol.LeftBracket) (bind (one (is_symbol symbol.LeftBracket))
+    (λ left. vector_with p)) simple_value)
 
 -- a value in which braces and brackets nest less than so deep
 unfoldable pub value_at : ℕ → Reader AttrValue

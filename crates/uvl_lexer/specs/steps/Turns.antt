@@ -30,13 +30,17 @@ indentations_after false indentations p = indentations_behind p.reach indentatio
 
 -- what units are read as, one after another, where the line has begun or not, and these indentations are open
 abbrev pub read_units : Bool → List ℕ → Units → Lexed
-read_units begun indentations (Finished p) = Ok (newline_at begun p ++ dedents 0 indentations p ++ unspelled_at token.Finish p ∷ [])
+read_units begun indentations (Finished p) =
+    Ok (newline_at begun p ++ dedents 0 indentations p ++ unspelled_at token.Finish p ∷ [])
 read_units begun indentations (Stopped p kind) = Err (place_of p, kind)
-read_units begun indentations (Refused p kind) = if may_begin begun indentations p then Err (place_of p, kind) else Err (place_of p, BadIndent)
+read_units begun indentations (Refused p kind) =
+    if may_begin begun indentations p then Err (place_of p, kind) else Err (place_of p, BadIndent)
 read_units begun indentations (Ended p rest) = tokens_onto (newline_at begun p) (read_units false indentations rest)
 read_units begun indentations (Spelled p kind after rest) =
     if may_begin begun indentations p
-    then tokens_onto (layout_before begun indentations p ++ token_at kind p after ∷ []) (read_units true (indentations_after begun indentations p) rest)
+    then tokens_onto
+        (layout_before begun indentations p ++ token_at kind p after ∷ [])
+        (read_units true (indentations_after begun indentations p) rest)
     else Err (place_of p, BadIndent)
 
 -- what a text is read as, one token after another

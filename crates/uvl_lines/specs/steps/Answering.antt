@@ -30,7 +30,8 @@ pub record Halted {A : Type 0} (R : Replies A) (F : Fetching A) (s : A) (before 
   pub halts : Halts R F s lines said ending
 
 -- the lines were answered, or the run ends with one of them
-abbrev pub Answering : {A T : Type 0} → Replies A → Fetching A → A → A → Option (List ℕ) → Option (List ℕ) → List (List ℕ)
+abbrev pub Answering : {A T : Type 0} → Replies A → Fetching A → A → A → Option (List ℕ) → Option (List ℕ)
+    → List (List ℕ)
     → Result T Ending → Type 0
 Answering R F s t before now lines (Ok _) = Replied R s t before now lines
 Answering R F s t before now lines (Err ending) = Halted R F s before now lines ending

@@ -16,11 +16,13 @@ Gives view (Ok x) read = read ≡ Ok (view x)
 Gives view (Err stop) read = Fails stop read
 
 -- whatever a function that is passed in answers, is what a reader gives
-abbrev pub IsReader : {A T : Type 0} → (A → Bor (List Token) → Result (T × Bor (List Token)) Stop → Type 0) → Reader T → Type 0
+abbrev pub IsReader : {A T : Type 0} → (A → Bor (List Token) → Result (T × Bor (List Token)) Stop → Type 0) → Reader T
+    → Type 0
 IsReader {A} {T} answers p = (alloc : A) (ts : Bor (List Token)) (r : Result (T × Bor (List Token)) Stop)
     → answers alloc ts r → Gives (λ x. (x.0, x.1.now)) r (p ts.now)
 
 -- what is answered is what the whole gives, for each reader that the function passed in answers by
-abbrev pub GivesWith : {A T X Y : Type 0} → (A → Bor (List Token) → Result (T × Bor (List Token)) Stop → Type 0) → (X → Y × List Token)
+abbrev pub GivesWith : {A T X Y : Type 0} → (A → Bor (List Token) → Result (T × Bor (List Token)) Stop → Type 0)
+    → (X → Y × List Token)
     → Result X Stop → (Reader T → Read Y) → Type 0
 GivesWith {A} {T} answers view result whole = (p : Reader T) → IsReader answers p → Gives view result (whole p)

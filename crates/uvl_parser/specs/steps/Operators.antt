@@ -14,7 +14,8 @@ use Rattle.uvl_parser.specs.steps.Precedence.{operators_of}
 
 -- the precedences, from the least binding one
 abbrev pub precedences : List Precedence
-precedences = precedence.Iff ∷ precedence.Implies ∷ precedence.Or ∷ precedence.And ∷ precedence.Sum ∷ precedence.Product ∷ []
+precedences =
+    precedence.Iff ∷ precedence.Implies ∷ precedence.Or ∷ precedence.And ∷ precedence.Sum ∷ precedence.Product ∷ []
 
 -- how strongly the operators of a precedence bind: their place among the precedences
 abbrev pub strength : Precedence → ℕ
@@ -44,4 +45,5 @@ IsBetween least most l = (strength least ≤ strength l) × (strength l ≤ stre
 -- stands, and what is behind it; or none, as no operator of such a precedence is in front
 abbrev pub Splits : Precedence → Precedence → List Token → Option (BinOp × Precedence × Place × List Token) → Type 0
 Splits least most tokens (Some o) = IsBetween least most o.1 × (accept (operators_of o.1) tokens ≡ Ok ((o.0, o.2), o.3))
-Splits least most tokens None = (l : Precedence) → IsBetween least most l → begins (is_operator (operators_of l)) tokens ≡ false
+Splits least most tokens None =
+    (l : Precedence) → IsBetween least most l → begins (is_operator (operators_of l)) tokens ≡ false

@@ -18,7 +18,8 @@ operators_of precedence.Product = product_operator
 
 -- what stands between them, where parentheses and `!` nest less than so deep
 abbrev pub part_within : Precedence → ℕ → Reader Expr
-part_within precedence.Iff depth = grouped implies_operator (grouped or_operator (grouped and_operator (operand_within depth)))
+part_within precedence.Iff depth =
+    grouped implies_operator (grouped or_operator (grouped and_operator (operand_within depth)))
 part_within precedence.Implies depth = grouped or_operator (grouped and_operator (operand_within depth))
 part_within precedence.Or depth = grouped and_operator (operand_within depth)
 part_within precedence.And depth = operand_within depth

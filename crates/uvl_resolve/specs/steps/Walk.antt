@@ -52,7 +52,8 @@ pub record AddsGroups (old new : RowBuilder) (parent : FeatureNo) (written : Lis
   pub names : new.names ≡ old.names ++ names_of_groups below
 
 -- the rows of the trees of members stand behind the others
-pub record AddsMembers (old new : RowBuilder) (parent : FeatureNo) (written : List Feature) (numbers : List FeatureNo) : Type 0 where
+pub record AddsMembers (old new : RowBuilder) (parent : FeatureNo) (written : List Feature) (numbers : List FeatureNo) :
+    Type 0 where
   pub members : Members
   pub say : AreMembers written members
   pub numbered : numbers ≡ member_numbers (length old.names) members
