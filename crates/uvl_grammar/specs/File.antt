@@ -20,4 +20,10 @@ pub data Spells : List Token → File → Type 0 where
       → SpellsSection word.Constraints SpellsRule rs rules → IsFinish finish
       → Spells (ns ++ ls ++ ms ++ fs ++ rs ++ finish ∷ [])
       (record {
-        namespace = namespace; levels = levels; imports = imports; root = root; rules = rules; finish = finish.place })
+        namespace = namespace;
+        levels = levels;
+        imports = imports;
+        root = root;
+        rules = rules;
+        finish = finish.place;
+      })

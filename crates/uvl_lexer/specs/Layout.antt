@@ -209,8 +209,8 @@ laid_out indentations (RefusedFirst p kind) =
 laid_out indentations (Line first tokens end rest) =
     if is_aligned first.reach indentations
     then tokens_onto
-        (line_layout indentations first ++ tokens ++ unspelled_at token.Newline end ∷ [])
-        (laid_out (indentations_behind first.reach indentations) rest)
+    (line_layout indentations first ++ tokens ++ unspelled_at token.Newline end ∷ [])
+    (laid_out (indentations_behind first.reach indentations) rest)
     else Err (place_of first, BadIndent)
 laid_out indentations (BrokenOff first p kind) =
     if is_aligned first.reach indentations then Err (place_of p, kind) else Err (place_of first, BadIndent)

@@ -63,4 +63,4 @@ StopsAreOfACut =
     (text : List ℕ) (place : Place) (kind : FaultKind)
     → Stops text place kind
     ↔ ((pieces : List SpelledPiece) × (left : List ℕ) × IsCut pieces left (after_mark text) × NoneBegins left
-        × (laid_by text pieces left ≡ Err (place, kind)))
+    × (laid_by text pieces left ≡ Err (place, kind)))

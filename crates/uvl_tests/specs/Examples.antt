@@ -23,8 +23,8 @@ abbrev pub unfittable : Tree
 unfittable =
     feature (codes "R")
     (group 0 1
-        (member (feature (codes "P") (group 4 3 (leaves (codes "A" ∷ codes "B" ∷ codes "C" ∷ [])) no_groups)) no_members)
-        no_groups)
+    (member (feature (codes "P") (group 4 3 (leaves (codes "A" ∷ codes "B" ∷ codes "C" ∷ [])) no_groups)) no_members)
+    no_groups)
 
 -- the same group below the root, so that no set has the root and fits
 abbrev pub void_tree : Tree

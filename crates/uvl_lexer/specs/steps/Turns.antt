@@ -39,8 +39,8 @@ read_units begun indentations (Ended p rest) = tokens_onto (newline_at begun p) 
 read_units begun indentations (Spelled p kind after rest) =
     if may_begin begun indentations p
     then tokens_onto
-        (layout_before begun indentations p ++ token_at kind p after ∷ [])
-        (read_units true (indentations_after begun indentations p) rest)
+    (layout_before begun indentations p ++ token_at kind p after ∷ [])
+    (read_units true (indentations_after begun indentations p) rest)
     else Err (place_of p, BadIndent)
 
 -- what a text is read as, one token after another
