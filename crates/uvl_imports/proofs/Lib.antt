@@ -1,0 +1,16 @@
+pub mod TextKeys
+pub mod Folders
+pub mod Causes
+pub mod ReadOnce
+pub mod AllFiles
+pub mod Contents
+pub mod Distinct
+pub mod Growing
+pub mod Lines
+pub mod Walked
+pub mod Begun
+pub mod Top
+pub mod Said
+pub mod Places
+pub mod Unfolded
+pub mod ImportSets

@@ -1,0 +1,11 @@
+pub mod Limits
+pub mod Texts
+pub mod Paths
+pub mod Reading
+pub mod Walking
+pub mod Sets
+pub mod Loading
+pub mod Order
+pub mod ImportSets
+pub mod Law
+pub mod steps
