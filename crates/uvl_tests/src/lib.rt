@@ -9,6 +9,8 @@ mod base;
 #[cfg(test)]
 mod compile;
 #[cfg(test)]
+mod imports;
+#[cfg(test)]
 mod lexer;
 #[cfg(test)]
 mod lines;
