@@ -1,15 +1,15 @@
 //! The products of a model: its diagram, and the answers of the diagram and of the model's rows.
 ghost use Rattle.std.specs.Prelude.{IfSome};
 ghost use Rattle.dd_store.specs.Table.{IsLive};
-ghost use Rattle.uvl_model.specs.OptionalGroups.{GroupsAreMandatoryOrOptional};
+ghost use Rattle.uvl_tree_model.specs.OptionalGroups.{GroupsAreMandatoryOrOptional};
 
 use crate::tokens::tokens_of;
 use dd_store::{Handle, Store};
 use std::alloc::Global;
 use uvl_compile::{add_variables, compile};
-use uvl_model::Model;
 use uvl_parser::parse;
-use uvl_resolve::resolve;
+use uvl_tree_model::Model;
+use uvl_tree_resolve::resolve;
 
 /// How many nodes a table may hold: as many as the program gives it where its words don't say.
 const BUDGET: u32 = 1_048_576;

@@ -5,15 +5,15 @@ use Rattle.std.proofs.lemmas.Bool.{le-leb}
 use Rattle.std.proofs.lemmas.Bool.Decides.{nat_tests}
 use Rattle.std.proofs.lemmas.List.{append_assoc, get_or_append_left, get_or-append-add, length-append}
 use Rattle.std.proofs.lemmas.List.Folds.{list_all-append}
-use Rattle.uvl_model.specs.declared.rows.FeatureNo.{FeatureNo}
-use Rattle.uvl_model.specs.declared.rows.GroupRow.{GroupRow}
-use Rattle.uvl_model.specs.Check.{is_marked, group_holds}
-use Rattle.uvl_model.specs.Spelling.{numbered, size_of, size_of_members, member_numbers, group_rows, group_rows_of_groups, group_rows_of_members}
-use Rattle.uvl_model.specs.Tree.{Tree, Groups, Members, feature, no_groups, group, no_members, member, names_of, names_of_groups, names_of_members}
+use Rattle.uvl_tree_model.specs.declared.rows.FeatureNo.{FeatureNo}
+use Rattle.uvl_tree_model.specs.declared.rows.GroupRow.{GroupRow}
+use Rattle.uvl_tree_model.specs.Check.{is_marked, group_holds}
+use Rattle.uvl_tree_model.specs.Spelling.{numbered, size_of, size_of_members, member_numbers, group_rows, group_rows_of_groups, group_rows_of_members}
+use Rattle.uvl_tree_model.specs.Tree.{Tree, Groups, Members, feature, no_groups, group, no_members, member, names_of, names_of_groups, names_of_members}
 use Rattle.uvl_compile.specs.declared.outline.Entry.{Entry}
 use Rattle.uvl_compile.specs.Choice.{is_allowed}
 use Rattle.uvl_compile.specs.Outline.{entries_of, entries_of_groups, entries_of_members}
-use Rattle.uvl_model.specs.OptionalGroups.{IsMandatoryOrOptional}
+use Rattle.uvl_tree_model.specs.OptionalGroups.{IsMandatoryOrOptional}
 use Rattle.uvl_compile.proofs.GroupTests.{is_fit, group_holds-each}
 
 -- the first entry, if there is one, has at most this depth

@@ -1,7 +1,7 @@
 -- The names that an assignment chooses are those that its values mark.
 use Rattle.std.proofs.Common.{◌≡◌, ℕ, ◌+◌, ◌<◌, zero, suc, nat_le, Bool, true, false, not, ◌&&◌, List, [], ◌∷◌, length, refl, sym, ap, ◌∙◌, subst, arith, if◌then◌else◌}
 use Rattle.dd_store.specs.Follow.{assignment_of}
-use Rattle.uvl_model.specs.Names.{marked}
+use Rattle.uvl_tree_model.specs.Names.{marked}
 use Rattle.uvl_compile.specs.declared.outline.Entry.{Entry}
 use Rattle.uvl_compile.specs.Choice.{is_allowed}
 use Rattle.uvl_compile.specs.Chosen.{chosen_from}

@@ -4,10 +4,10 @@ use Rattle.std.proofs.Math.ListN.{set, length-set}
 use Rattle.std.proofs.lemmas.Bool.{cases_eq, cases_lt}
 use Rattle.std.proofs.lemmas.List.{length-append, get_or_past, append-nil, take_all, drop_all}
 use Rattle.std.specs.Prelude.{slice_set, replicate}
-use Rattle.uvl_model.specs.declared.rows.FeatureNo.{FeatureNo}
-use Rattle.uvl_model.specs.declared.rows.GroupRow.{GroupRow}
-use Rattle.uvl_model.specs.Spelling.{numbered, size_of, size_of_members, member_numbers, group_rows, group_rows_of_groups, group_rows_of_members}
-use Rattle.uvl_model.specs.Tree.{Tree, Groups, Members, feature, no_groups, group, no_members, member, names_of, names_of_groups, names_of_members}
+use Rattle.uvl_tree_model.specs.declared.rows.FeatureNo.{FeatureNo}
+use Rattle.uvl_tree_model.specs.declared.rows.GroupRow.{GroupRow}
+use Rattle.uvl_tree_model.specs.Spelling.{numbered, size_of, size_of_members, member_numbers, group_rows, group_rows_of_groups, group_rows_of_members}
+use Rattle.uvl_tree_model.specs.Tree.{Tree, Groups, Members, feature, no_groups, group, no_members, member, names_of, names_of_groups, names_of_members}
 use Rattle.uvl_compile.specs.declared.outline.Entry.{Entry}
 use Rattle.uvl_compile.specs.Entering.{entry_at, with_entry, with_group, AreShallow}
 use Rattle.uvl_compile.specs.Outline.{entries_of, entries_of_groups, entries_of_members}

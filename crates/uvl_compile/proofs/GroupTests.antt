@@ -4,10 +4,10 @@ use Rattle.std.specs.List.{list_all, count_by}
 use Rattle.std.proofs.lemmas.Bool.{le-leb}
 use Rattle.std.proofs.lemmas.Bool.Decides.{nat_tests}
 use Rattle.std.proofs.lemmas.List.Sums.{sum_by-cons, count_by-le-length}
-use Rattle.uvl_model.specs.declared.rows.FeatureNo.{FeatureNo}
-use Rattle.uvl_model.specs.declared.rows.GroupRow.{GroupRow}
-use Rattle.uvl_model.specs.Check.{is_marked, marked_count, group_holds}
-use Rattle.uvl_model.specs.OptionalGroups.{IsMandatoryOrOptional}
+use Rattle.uvl_tree_model.specs.declared.rows.FeatureNo.{FeatureNo}
+use Rattle.uvl_tree_model.specs.declared.rows.GroupRow.{GroupRow}
+use Rattle.uvl_tree_model.specs.Check.{is_marked, marked_count, group_holds}
+use Rattle.uvl_tree_model.specs.OptionalGroups.{IsMandatoryOrOptional}
 
 -- whether a feature may be chosen or not, by whether its parent is chosen and whether it is mandatory
 abbrev pub is_fit : Bool → Bool → Bool → Bool

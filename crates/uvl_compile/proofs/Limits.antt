@@ -3,13 +3,13 @@ use Rattle.std.proofs.Common.{◌≡◌, ℕ, ◌+◌, ◌<◌, ◌≤◌, zero,
 use Rattle.std.specs.List.{All}
 use Rattle.std.proofs.lemmas.List.{length-append, length-map}
 use Rattle.std.proofs.lemmas.List.Elements.{All-append}
-use Rattle.uvl_model.specs.declared.rows.FeatureNo.{FeatureNo}
-use Rattle.uvl_model.specs.declared.rows.GroupRow.{GroupRow}
-use Rattle.uvl_model.specs.Laws.{RowsGiveNames}
-use Rattle.uvl_model.specs.Rows.{Rows}
-use Rattle.uvl_model.specs.Sound.{IsSound}
-use Rattle.uvl_model.specs.Spelling.{Spells, numbered, size_of, size_of_members, member_numbers, group_rows, group_rows_of_groups, group_rows_of_members}
-use Rattle.uvl_model.specs.Tree.{Tree, Groups, Members, feature, no_groups, group, no_members, member, names_of, names_of_groups, names_of_members, depth_of, depth_of_groups, depth_of_members}
+use Rattle.uvl_tree_model.specs.declared.rows.FeatureNo.{FeatureNo}
+use Rattle.uvl_tree_model.specs.declared.rows.GroupRow.{GroupRow}
+use Rattle.uvl_tree_model.specs.Laws.{RowsGiveNames}
+use Rattle.uvl_tree_model.specs.Rows.{Rows}
+use Rattle.uvl_tree_model.specs.Sound.{IsSound}
+use Rattle.uvl_tree_model.specs.Spelling.{Spells, numbered, size_of, size_of_members, member_numbers, group_rows, group_rows_of_groups, group_rows_of_members}
+use Rattle.uvl_tree_model.specs.Tree.{Tree, Groups, Members, feature, no_groups, group, no_members, member, names_of, names_of_groups, names_of_members, depth_of, depth_of_groups, depth_of_members}
 use Rattle.uvl_compile.specs.declared.outline.Entry.{Entry}
 use Rattle.uvl_compile.specs.Entering.{IsWithin, AreShallow}
 use Rattle.uvl_compile.specs.Outline.{entries_of, entries_of_groups, entries_of_members}

@@ -7,7 +7,7 @@ use Rattle.std.specs.declared.alloc.AllocError.{AllocError}
 use Rattle.dd_store.specs.Table.{Table, value_of, IsLive}
 use Rattle.dd_store.specs.Changes.{Grows}
 use Rattle.dd_store.proofs.CountLemmas.{length-push}
-use Rattle.uvl_model.specs.Tree.{Tree, feature}
+use Rattle.uvl_tree_model.specs.Tree.{Tree, feature}
 use Rattle.uvl_compile.specs.declared.outline.Entry.{Entry}
 use Rattle.uvl_compile.specs.Choice.{is_allowed}
 use Rattle.uvl_compile.specs.Entering.{entry_at}

@@ -1,7 +1,7 @@
 -- The features that an assignment chooses. Variable k stands for feature k; other variables choose nothing.
 use Rattle.std.specs.Prelude.{ℕ, ◌+◌, Bool, List, [], ◌∷◌, if◌then◌else◌}
-use Rattle.uvl_model.specs.Names.{feature_names}
-use Rattle.uvl_model.specs.Rows.{Rows}
+use Rattle.uvl_tree_model.specs.Names.{feature_names}
+use Rattle.uvl_tree_model.specs.Rows.{Rows}
 
 -- those of the names whose variable is true, the first of them having number n
 abbrev pub chosen_from : ℕ → (ℕ → Bool) → List (List ℕ) → List (List ℕ)

@@ -1,8 +1,8 @@
 -- How the entries of features are found, group by group.
 use Rattle.std.specs.Prelude.{ℕ, ◌+◌, ◌<◌, ◌≤◌, false, nat_lt, List, [], ◌∷◌, slice_set, slice_index_or}
 use Rattle.std.specs.List.{All}
-use Rattle.uvl_model.specs.declared.rows.FeatureNo.{FeatureNo}
-use Rattle.uvl_model.specs.declared.rows.GroupRow.{GroupRow}
+use Rattle.uvl_tree_model.specs.declared.rows.FeatureNo.{FeatureNo}
+use Rattle.uvl_tree_model.specs.declared.rows.GroupRow.{GroupRow}
 use Rattle.uvl_compile.specs.declared.outline.Entry.{Entry}
 
 -- the parent and the members of the group are among the first n features

@@ -1,11 +1,11 @@
 -- What the outline of a model tells of its products.
 use Rattle.std.specs.Prelude.{◌≡◌, ℕ, Bool, List}
 use Rattle.dd_store.specs.Follow.{assignment_of}
-use Rattle.uvl_model.specs.Names.{chosen_names}
-use Rattle.uvl_model.specs.OptionalGroups.{GroupsAreMandatoryOrOptional}
-use Rattle.uvl_model.specs.Products.{Products}
-use Rattle.uvl_model.specs.Rows.{Rows}
-use Rattle.uvl_model.specs.Sound.{IsSound}
+use Rattle.uvl_tree_model.specs.Names.{chosen_names}
+use Rattle.uvl_tree_model.specs.OptionalGroups.{GroupsAreMandatoryOrOptional}
+use Rattle.uvl_tree_model.specs.Products.{Products}
+use Rattle.uvl_tree_model.specs.Rows.{Rows}
+use Rattle.uvl_tree_model.specs.Sound.{IsSound}
 use Rattle.uvl_compile.specs.declared.outline.Entry.{Entry}
 use Rattle.uvl_compile.specs.Choice.{is_allowed}
 use Rattle.uvl_compile.specs.Chosen.{chosen_features}

@@ -1,7 +1,7 @@
 -- How many nodes the diagram of a model's products takes at most.
 use Rattle.std.specs.Prelude.{ℕ, ◌*◌, length}
 use Rattle.uvl_base.specs.Limits.{most_depth}
-use Rattle.uvl_model.specs.Rows.{Rows}
+use Rattle.uvl_tree_model.specs.Rows.{Rows}
 
 -- for each feature: one node for each number of features above it that may be chosen
 abbrev pub nodes_per_feature : ℕ

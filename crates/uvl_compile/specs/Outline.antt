@@ -1,8 +1,8 @@
 -- The outline of a tree: its features in document order, each with its depth and whether it is mandatory.
 use Rattle.std.specs.Prelude.{◌≡◌, ℕ, ◌+◌, Bool, true, nat_lt, List, [], ◌∷◌, ◌++◌}
-use Rattle.uvl_model.specs.Rows.{Rows}
-use Rattle.uvl_model.specs.Spelling.{Spells}
-use Rattle.uvl_model.specs.Tree.{Tree, Groups, Members, feature, no_groups, group, no_members, member}
+use Rattle.uvl_tree_model.specs.Rows.{Rows}
+use Rattle.uvl_tree_model.specs.Spelling.{Spells}
+use Rattle.uvl_tree_model.specs.Tree.{Tree, Groups, Members, feature, no_groups, group, no_members, member}
 use Rattle.uvl_compile.specs.declared.outline.Entry.{Entry}
 
 abbrev mutual

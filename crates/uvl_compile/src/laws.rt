@@ -1,7 +1,7 @@
 //! Laws of the definitions. The functions do nothing: what they ensure is the law.
 ghost use Rattle.uvl_compile.specs.Laws.{OutlineTellsProducts, MarksChooseFeatures};
 
-use uvl_model::{rows_check_products, rows_give_names};
+use uvl_tree_model::{rows_check_products, rows_give_names};
 
 /// The outline of a model with mandatory and optional groups tells its products.
 pub fn outline_tells_products()

@@ -6,7 +6,7 @@ ghost use Rattle.uvl_compile.specs.Outline.{IsOutlineOf};
 
 use dd_store::OutOfMemory;
 use std::alloc::Global;
-use uvl_model::{GroupRow, Model, rows_give_names};
+use uvl_tree_model::{GroupRow, Model, rows_give_names};
 
 /// What the outline says of a feature.
 #[derive(Clone, Copy, Debug, PartialEq, Eq)]

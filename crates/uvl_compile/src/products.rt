@@ -4,12 +4,12 @@ ghost use Rattle.dd_store.specs.Changes.{Grows};
 ghost use Rattle.dd_store.specs.Handles.{KeepsHandles, GainsHandle, HoldsMore};
 ghost use Rattle.dd_store.specs.Table.{IsSound, node_count, value_of};
 ghost use Rattle.uvl_base.specs.Limits.{most_features, most_depth};
-ghost use Rattle.uvl_model.specs.Products.{Products};
+ghost use Rattle.uvl_tree_model.specs.Products.{Products};
 ghost use Rattle.uvl_compile.specs.Chosen.{chosen_features};
 ghost use Rattle.uvl_compile.specs.Entering.{AreShallow};
 ghost use Rattle.uvl_compile.specs.Nodes.{nodes_per_feature, most_nodes_of};
 ghost use Rattle.uvl_compile.specs.Row.{IsAscending, IsRow};
-ghost use Rattle.uvl_model.specs.OptionalGroups.{GroupsAreMandatoryOrOptional};
+ghost use Rattle.uvl_tree_model.specs.OptionalGroups.{GroupsAreMandatoryOrOptional};
 
 use crate::handles::push_within_capacity;
 use crate::laws::outline_tells_products;
@@ -18,7 +18,7 @@ use crate::row::feature_row;
 use dd_store::{Handle, OutOfMemory, Store};
 use std::alloc::Global;
 use uvl_base::MOST_DEPTH;
-use uvl_model::Model;
+use uvl_tree_model::Model;
 
 /// How many nodes the diagram of a model's products wants for each feature at most: one for each
 /// number of features above it that may be chosen.

@@ -13,12 +13,12 @@ use Rattle.uvl_parser.specs.declared.fault.ParseFault.{ParseFault}
 use Rattle.uvl_parser.specs.declared.fault.ParseFault.TheVariants as parsing
 use Rattle.uvl_parser.specs.Parsing.{IsParsedAs, IsRefusedAt}
 use Rattle.uvl_parser.specs.Parsing as parser
-use Rattle.uvl_model.specs.Rows.{Rows}
-use Rattle.uvl_resolve.specs.declared.fault.ResolveFault.{ResolveFault}
-use Rattle.uvl_resolve.specs.declared.fault.ResolveFault.TheVariants as resolving
-use Rattle.uvl_resolve.specs.Causes.{HasCause}
-use Rattle.uvl_resolve.specs.Flat.{Flat}
-use Rattle.uvl_resolve.specs.Laws.{FlatKeepsProducts}
+use Rattle.uvl_tree_model.specs.Rows.{Rows}
+use Rattle.uvl_tree_resolve.specs.declared.fault.ResolveFault.{ResolveFault}
+use Rattle.uvl_tree_resolve.specs.declared.fault.ResolveFault.TheVariants as resolving
+use Rattle.uvl_tree_resolve.specs.Causes.{HasCause}
+use Rattle.uvl_tree_resolve.specs.Flat.{Flat}
+use Rattle.uvl_tree_resolve.specs.Laws.{FlatKeepsProducts}
 use Rattle.uvl_run.specs.Loading.{AreTokensOf, IsFileWithoutRuleLists, SaysTree, no_tokens, no_file, no_model, rule_list}
 use Rattle.uvl_run.specs.steps.Loads.{SaysModel}
 use Rattle.uvl_run.specs.steps.LoadFaults.{IsCauseIn, of_whole_file, of_lexer, of_parser, of_resolution}

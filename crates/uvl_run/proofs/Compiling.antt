@@ -3,11 +3,11 @@ use Rattle.std.proofs.Common.{◌≡◌, ℕ, Bool, true, false, not, List, Some
 use Rattle.std.proofs.lemmas.Bool.{false≢true, false_from_ne_true}
 use Rattle.dd_store.specs.Follow.{assignment_of}
 use Rattle.dd_store.specs.Table.{Table, value_of}
-use Rattle.uvl_model.specs.Family.{is_void}
-use Rattle.uvl_model.specs.Laws.{ProductsAreSets, VoidFamiliesHaveNoSet, MarksTellVoidFamilies}
-use Rattle.uvl_model.specs.Names.{chosen_names}
-use Rattle.uvl_model.specs.Products.{Products}
-use Rattle.uvl_model.specs.Rows.{Rows}
+use Rattle.uvl_tree_model.specs.Family.{is_void}
+use Rattle.uvl_tree_model.specs.Laws.{ProductsAreSets, VoidFamiliesHaveNoSet, MarksTellVoidFamilies}
+use Rattle.uvl_tree_model.specs.Names.{chosen_names}
+use Rattle.uvl_tree_model.specs.Products.{Products}
+use Rattle.uvl_tree_model.specs.Rows.{Rows}
 use Rattle.uvl_compile.specs.Chosen.{chosen_features}
 use Rattle.uvl_compile.specs.Laws.{MarksChooseFeatures}
 use Rattle.uvl_run.specs.steps.Compiled.{IsCompiled}

@@ -11,7 +11,7 @@ use Rattle.uvl_base.specs.Limits.{most_script_bytes}
 use Rattle.uvl_lines.specs.declared.ending.Ending.{Ending}
 use Rattle.uvl_lines.specs.declared.ending.Ending.TheVariants as lines
 use Rattle.uvl_lines.specs.Endings.{Ends, TakesAll, ending_of_put}
-use Rattle.uvl_model.specs.Tree.{Tree}
+use Rattle.uvl_tree_model.specs.Tree.{Tree}
 use Rattle.uvl_words.specs.CommandLine.{Request, for_model}
 use Rattle.uvl_run.specs.declared.status.Status.{Status}
 use Rattle.uvl_run.specs.declared.status.Status.TheVariants.{Done, Usage, Model, WriteFault, OverBudget, TooMuchInput}

@@ -12,7 +12,7 @@ use Rattle.uvl_lines.specs.declared.ending.Ending.TheVariants as lines
 use Rattle.uvl_lines.specs.Endings.{Ends, IsAnswered, ending_of_put}
 use Rattle.uvl_lines.specs.Lines.{ended_lines, script_lines}
 use Rattle.uvl_lines.specs.Runs.{IsFrontOf}
-use Rattle.uvl_model.specs.Tree.{Tree}
+use Rattle.uvl_tree_model.specs.Tree.{Tree}
 use Rattle.uvl_run.specs.declared.status.Status.{Status}
 use Rattle.uvl_run.specs.declared.status.Status.TheVariants.{Usage, Model, OverBudget}
 use Rattle.uvl_run.specs.InMemory.{HasTree, HasFaultLine, IsCutShort, IsRun, nothing, in_usage, in_fault, in_budget, in_script}

@@ -14,11 +14,11 @@ use Rattle.uvl_lexer.specs.Law.{HasTokens, HasStop, EachTextIsReadOnce}
 use Rattle.uvl_lexer.specs.TokenList.{TokensAreAList}
 use Rattle.uvl_ast.specs.declared.file.File.{File}
 use Rattle.uvl_parser.specs.Parsing.{IsParsedAs, IsRefusedAt, HasFile, HasRefusal, EachTokenListIsParsedOnce}
-use Rattle.uvl_model.specs.Tree.{Tree}
-use Rattle.uvl_resolve.specs.Built.{IsBuilt}
-use Rattle.uvl_resolve.specs.Causes.{HasCause}
-use Rattle.uvl_resolve.specs.Laws.{FilesHaveOneTree, FilesAreBuiltOrHaveACause}
-use Rattle.uvl_resolve.specs.TreeOf.{IsTreeOf}
+use Rattle.uvl_tree_model.specs.Tree.{Tree}
+use Rattle.uvl_tree_resolve.specs.Built.{IsBuilt}
+use Rattle.uvl_tree_resolve.specs.Causes.{HasCause}
+use Rattle.uvl_tree_resolve.specs.Laws.{FilesHaveOneTree, FilesAreBuiltOrHaveACause}
+use Rattle.uvl_tree_resolve.specs.TreeOf.{IsTreeOf}
 use Rattle.uvl_run.specs.Laws.{HasOneTree, HasOneFault, EachContentIsLoadedOnce}
 use Rattle.uvl_run.specs.Loading.{first_place, AreTokensOf, IsFileOf, SaysTree, HasFaultIn, no_text, no_tokens, no_file, no_model, rule_list, IsModelOf}
 use Rattle.uvl_run.specs.RuleLists.{has_rule_list}

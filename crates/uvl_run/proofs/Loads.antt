@@ -6,7 +6,7 @@ use Rattle.uvl_base.specs.declared.fault.FaultKind.{FaultKind}
 use Rattle.uvl_base.specs.declared.fault.FaultKind.TheVariants.{TooLong}
 use Rattle.uvl_base.specs.declared.place.Place.{Place}
 use Rattle.uvl_base.specs.Limits.{most_file_bytes}
-use Rattle.uvl_model.specs.Rows.{Rows}
+use Rattle.uvl_tree_model.specs.Rows.{Rows}
 use Rattle.uvl_run.specs.declared.load.LoadFault.{LoadFault}
 use Rattle.uvl_run.specs.declared.load.LoadFault.TheVariants.{Model, Host, OutOfMemory}
 use Rattle.uvl_run.specs.Loading.{first_place, IsOfWholeFile, HasFaultIn, HasFault, LoadsFault}

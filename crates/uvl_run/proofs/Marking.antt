@@ -7,11 +7,11 @@ use Rattle.std.proofs.lemmas.List.{length-replicate, take_more, get_or-replicate
 use Rattle.std.proofs.lemmas.List.Folds.{list_any-append, list_all-append}
 use Rattle.std.proofs.lemmas.Option.{same_Some, unwrap_or-slice_get}
 use Rattle.std.proofs.lemmas.Slice.Eq.{bytes_eq-Decides}
-use Rattle.uvl_model.specs.declared.rows.FeatureNo.{FeatureNo}
-use Rattle.uvl_model.specs.Check.{is_marked}
-use Rattle.uvl_model.specs.Marks.{StandFor}
-use Rattle.uvl_model.specs.Product.{has}
-use Rattle.uvl_model.specs.Spelling.{numbered}
+use Rattle.uvl_tree_model.specs.declared.rows.FeatureNo.{FeatureNo}
+use Rattle.uvl_tree_model.specs.Check.{is_marked}
+use Rattle.uvl_tree_model.specs.Marks.{StandFor}
+use Rattle.uvl_tree_model.specs.Product.{has}
+use Rattle.uvl_tree_model.specs.Spelling.{numbered}
 
 none_marked : (n k : ℕ) → is_marked (replicate n false) (numbered k) ≡ false
 none_marked n k =

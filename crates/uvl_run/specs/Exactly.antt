@@ -4,7 +4,7 @@ use Rattle.uvl_outside.specs.Files.{Contents}
 use Rattle.uvl_base.specs.declared.fault.FaultKind.{FaultKind}
 use Rattle.uvl_base.specs.declared.place.Place.{Place}
 use Rattle.uvl_base.specs.Limits.{most_script_bytes}
-use Rattle.uvl_model.specs.Tree.{Tree}
+use Rattle.uvl_tree_model.specs.Tree.{Tree}
 use Rattle.uvl_run.specs.declared.status.Status.{Status}
 use Rattle.uvl_run.specs.declared.status.Status.TheVariants.{Done, Usage, Model, ReadFault, WriteFault, OverBudget, NoMemory, TooMuchInput}
 use Rattle.uvl_run.specs.Budget.{nodes_for}

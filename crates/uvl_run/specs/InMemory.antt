@@ -8,7 +8,7 @@ use Rattle.uvl_lines.specs.declared.ending.Ending.TheVariants as lines
 use Rattle.uvl_lines.specs.Endings.{Ends, IsAnswered}
 use Rattle.uvl_lines.specs.Lines.{ended_lines, script_lines}
 use Rattle.uvl_lines.specs.Runs.{IsFrontOf}
-use Rattle.uvl_model.specs.Tree.{Tree}
+use Rattle.uvl_tree_model.specs.Tree.{Tree}
 use Rattle.uvl_words.specs.CommandLine.{usage_line}
 use Rattle.uvl_run.specs.declared.status.Status.{Status}
 use Rattle.uvl_run.specs.declared.status.Status.TheVariants.{Done, Usage, Model, ReadFault, WriteFault, OverBudget, NoMemory, TooMuchInput}

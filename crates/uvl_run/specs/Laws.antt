@@ -2,7 +2,7 @@
 use Rattle.std.specs.Prelude.{◌≡◌, ℕ, ◌⊎◌, List, Option}
 use Rattle.uvl_base.specs.declared.fault.FaultKind.{FaultKind}
 use Rattle.uvl_base.specs.declared.place.Place.{Place}
-use Rattle.uvl_model.specs.Tree.{Tree}
+use Rattle.uvl_tree_model.specs.Tree.{Tree}
 use Rattle.uvl_run.specs.Loading.{IsModelOf, HasFault}
 
 -- what is at a path is the model of a tree, of that tree alone, and has no fault

@@ -11,10 +11,10 @@ use Rattle.uvl_lexer.specs.declared.token.Token.{Token}
 use Rattle.uvl_lexer.specs.Layout.{Tokens, Stops}
 use Rattle.uvl_ast.specs.declared.file.File.{File}
 use Rattle.uvl_parser.specs.Parsing.{IsParsedAs, IsRefusedAt}
-use Rattle.uvl_model.specs.Tree.{Tree, names_of}
-use Rattle.uvl_resolve.specs.Built.{AreModelNames}
-use Rattle.uvl_resolve.specs.Causes.{HasCause}
-use Rattle.uvl_resolve.specs.TreeOf.{IsTreeOf}
+use Rattle.uvl_tree_model.specs.Tree.{Tree, names_of}
+use Rattle.uvl_tree_resolve.specs.Built.{AreModelNames}
+use Rattle.uvl_tree_resolve.specs.Causes.{HasCause}
+use Rattle.uvl_tree_resolve.specs.TreeOf.{IsTreeOf}
 use Rattle.uvl_run.specs.RuleLists.{has_rule_list}
 
 -- ---- what bytes say

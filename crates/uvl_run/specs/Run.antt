@@ -11,7 +11,7 @@ use Rattle.uvl_lines.specs.declared.ending.Ending.{Ending}
 use Rattle.uvl_lines.specs.declared.ending.Ending.TheVariants.{FetchFailed, NoMemory}
 use Rattle.uvl_lines.specs.Endings.{Ends, ending_of_put}
 use Rattle.uvl_lines.specs.Runs.{IsFrontOf}
-use Rattle.uvl_model.specs.Tree.{Tree}
+use Rattle.uvl_tree_model.specs.Tree.{Tree}
 use Rattle.uvl_words.specs.CommandLine.{for_model, request_of, usage_line}
 use Rattle.uvl_run.specs.declared.status.Status.{Status}
 use Rattle.uvl_run.specs.declared.status.Status.TheVariants.{Usage, Model, OverBudget}

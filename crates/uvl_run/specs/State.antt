@@ -1,8 +1,8 @@
 -- What the lines of a script are answered from, and what they may change. This project's own.
 use Rattle.std.specs.Prelude.{◌≡◌, ℕ}
-use Rattle.uvl_model.specs.Products.{Products, ProductsOfTree}
-use Rattle.uvl_model.specs.Rows.{Rows}
-use Rattle.uvl_model.specs.Tree.{Tree}
+use Rattle.uvl_tree_model.specs.Products.{Products, ProductsOfTree}
+use Rattle.uvl_tree_model.specs.Rows.{Rows}
+use Rattle.uvl_tree_model.specs.Tree.{Tree}
 
 -- the main model, and how many nodes the table of diagrams may hold
 pub record State : Type 0 where

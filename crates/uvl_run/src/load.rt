@@ -4,7 +4,7 @@ ghost use Rattle.uvl_ast.specs.Depth.{depth_of};
 ghost use Rattle.uvl_ast.specs.Members.{EachGroupHasMembers};
 ghost use Rattle.uvl_base.specs.Limits.{most_file_bytes, most_depth};
 ghost use Rattle.uvl_outside.specs.Faults.{Counts};
-ghost use Rattle.uvl_model.specs.OptionalGroups.{GroupsAreMandatoryOrOptional};
+ghost use Rattle.uvl_tree_model.specs.OptionalGroups.{GroupsAreMandatoryOrOptional};
 ghost use Rattle.uvl_run.specs.steps.LoadFaults.{IsCauseOf, IsCauseIn, load_failed, of_whole_file};
 ghost use Rattle.uvl_run.specs.Loading.{IsFileWithoutRuleLists};
 ghost use Rattle.uvl_run.specs.steps.Loads.{IsLoaded, SaysModel};
@@ -14,10 +14,10 @@ use std::alloc::Global;
 use uvl_ast::File;
 use uvl_base::{FaultKind, MOST_FILE_BYTES, Place};
 use uvl_lexer::{LexFault, lex};
-use uvl_model::Model;
 use uvl_outside::{FetchFault, Fetched, Files};
 use uvl_parser::{ParseFault, parse};
-use uvl_resolve::{ResolveFault, flat_keeps_products, resolve};
+use uvl_tree_model::Model;
+use uvl_tree_resolve::{ResolveFault, flat_keeps_products, resolve};
 
 /// Why there is no model.
 #[derive(Clone, Copy, Debug, PartialEq, Eq)]

@@ -2,12 +2,12 @@
 ghost use Rattle.std.specs.Prelude.{◌≡◌, ◌≤◌, ◌<◌, ◌↔◌, ℕ, length, slice_get, is_some, IfOk, IfSome, IsTrue, Some};
 ghost use Rattle.std.specs.List.{list_all};
 ghost use Rattle.uvl_compile.specs.Nodes.{most_nodes_of};
-ghost use Rattle.uvl_model.specs.Family.{is_void};
-ghost use Rattle.uvl_model.specs.Marks.{StandFor};
-ghost use Rattle.uvl_model.specs.OptionalGroups.{GroupsAreMandatoryOrOptional};
-ghost use Rattle.uvl_model.specs.Product.{has};
-ghost use Rattle.uvl_model.specs.Products.{Products};
-ghost use Rattle.uvl_model.specs.Spelling.{numbered};
+ghost use Rattle.uvl_tree_model.specs.Family.{is_void};
+ghost use Rattle.uvl_tree_model.specs.Marks.{StandFor};
+ghost use Rattle.uvl_tree_model.specs.OptionalGroups.{GroupsAreMandatoryOrOptional};
+ghost use Rattle.uvl_tree_model.specs.Product.{has};
+ghost use Rattle.uvl_tree_model.specs.Products.{Products};
+ghost use Rattle.uvl_tree_model.specs.Spelling.{numbered};
 ghost use Rattle.uvl_words.specs.Budgets.{least_budget, most_budget};
 ghost use Rattle.uvl_run.specs.Products.{product_answer};
 ghost use Rattle.uvl_run.specs.Replies.{Reply, Fetches};
@@ -19,11 +19,11 @@ use std::alloc::{AllocError, Global};
 use uvl_base::Name;
 use uvl_compile::{add_variables, compile, marks_choose_features};
 use uvl_lines::{AnswerFault, Answerer};
-use uvl_model::{
-    FeatureNo, Model, marks_give_products, products_are_sets, void_families_have_no_set,
-};
 use uvl_outside::Files;
 use uvl_script::Command;
+use uvl_tree_model::{
+    FeatureNo, Model, marks_give_products, products_are_sets, void_families_have_no_set,
+};
 
 /// The main model, and the table of diagrams with that of its products. Contracts see the
 /// model and the budget of the table.

@@ -1,8 +1,8 @@
 -- Small trees, on which the definitions are checked.
 use Rattle.std.specs.Prelude.{ℕ, List, [], ◌∷◌, filter, codes}
-use Rattle.uvl_model.specs.Product.{is_product}
-use Rattle.uvl_model.specs.Tree.{Tree, Members, feature, no_groups, group, no_members, member, names_of}
-use Rattle.uvl_model.specs.Family.{sublists_of}
+use Rattle.uvl_tree_model.specs.Product.{is_product}
+use Rattle.uvl_tree_model.specs.Tree.{Tree, Members, feature, no_groups, group, no_members, member, names_of}
+use Rattle.uvl_tree_model.specs.Family.{sublists_of}
 
 -- members without groups
 abbrev pub leaves : List (List ℕ) → Members

@@ -1,13 +1,13 @@
 //! The definitions on small trees, names by their numbers, and the answers of a thin model.
 ghost use Rattle.std.specs.Prelude.{◌≡◌, [], ◌∷◌, true, false, codes};
-ghost use Rattle.uvl_model.specs.Family.{is_void};
-ghost use Rattle.uvl_model.specs.Products.{ProductsOfTree};
+ghost use Rattle.uvl_tree_model.specs.Family.{is_void};
+ghost use Rattle.uvl_tree_model.specs.Products.{ProductsOfTree};
 ghost use Rattle.uvl_tests.specs.Examples.{thin_tree, two_or_three, unfittable, void_tree, products_of};
 
 use crate::texts::{PRODUCTS_OF_THIN, THIN, model_of};
 use std::process::Abort;
 use std::test::Fail;
-use uvl_model::{FeatureNo, Model, NameIndex};
+use uvl_tree_model::{FeatureNo, Model, NameIndex};
 
 /// The definitions on the examples. What it ensures is all of it.
 fn products_of_examples()

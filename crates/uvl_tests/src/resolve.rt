@@ -4,8 +4,8 @@ use std::alloc::Global;
 use std::fmt::Write;
 use std::process::Abort;
 use std::test::Fail;
-use uvl_model::{FeatureNo, FeatureRow, GroupRow};
-use uvl_resolve::ResolveFault;
+use uvl_tree_model::{FeatureNo, FeatureRow, GroupRow};
+use uvl_tree_resolve::ResolveFault;
 
 /// A car of eight features, in a file that says no more.
 const CAR: &str = "namespace Cars\n\

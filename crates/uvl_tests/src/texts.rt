@@ -4,7 +4,7 @@ ghost use Rattle.uvl_ast.specs.Depth.{depth_of};
 ghost use Rattle.uvl_ast.specs.Members.{EachGroupHasMembers};
 ghost use Rattle.uvl_base.specs.Limits.{most_depth};
 ghost use Rattle.uvl_lexer.specs.TokenList.{IsTokenList};
-ghost use Rattle.uvl_model.specs.OptionalGroups.{GroupsAreMandatoryOrOptional};
+ghost use Rattle.uvl_tree_model.specs.OptionalGroups.{GroupsAreMandatoryOrOptional};
 
 use std::alloc::Global;
 use std::fmt::Write;
@@ -12,9 +12,9 @@ use std::test::Fail;
 use uvl_ast::File;
 use uvl_base::MOST_FILE_BYTES;
 use uvl_lexer::{Token, lex};
-use uvl_model::Model;
 use uvl_parser::parse;
-use uvl_resolve::{ResolveFault, resolve};
+use uvl_tree_model::Model;
+use uvl_tree_resolve::{ResolveFault, resolve};
 
 /// A car with a mandatory body and an optional radio.
 pub(crate) const THIN: &str =

@@ -1,8 +1,8 @@
 -- A model with the diagram of its products.
 use Rattle.std.specs.Prelude.{◌≡◌, ℕ, Bool, length}
 use Rattle.dd_store.specs.Table.{Table, IsLive, IsSound, value_of}
-use Rattle.uvl_model.specs.Products.{Products}
-use Rattle.uvl_model.specs.Rows.{Rows}
+use Rattle.uvl_tree_model.specs.Products.{Products}
+use Rattle.uvl_tree_model.specs.Rows.{Rows}
 use Rattle.uvl_compile.specs.Chosen.{chosen_features}
 use Rattle.uvl_compile.specs.Row.{IsAscending}
 

@@ -7,8 +7,8 @@ use Rattle.uvl_lexer.specs.declared.fault.LexFault.{LexFault}
 use Rattle.uvl_lexer.specs.declared.fault.LexFault.TheVariants as lexing
 use Rattle.uvl_parser.specs.declared.fault.ParseFault.{ParseFault}
 use Rattle.uvl_parser.specs.declared.fault.ParseFault.TheVariants as parsing
-use Rattle.uvl_resolve.specs.declared.fault.ResolveFault.{ResolveFault}
-use Rattle.uvl_resolve.specs.declared.fault.ResolveFault.TheVariants as resolving
+use Rattle.uvl_tree_resolve.specs.declared.fault.ResolveFault.{ResolveFault}
+use Rattle.uvl_tree_resolve.specs.declared.fault.ResolveFault.TheVariants as resolving
 use Rattle.uvl_run.specs.declared.load.LoadFault.{LoadFault}
 use Rattle.uvl_run.specs.declared.load.LoadFault.TheVariants.{Model, Host, OutOfMemory}
 use Rattle.uvl_run.specs.Loading.{LoadsFault, HasFaultIn, first_place}

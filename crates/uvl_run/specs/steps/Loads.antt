@@ -1,9 +1,9 @@
 -- What the rows of a model that was loaded are.
 use Rattle.std.specs.Prelude.{◌≡◌, ℕ, List, Option}
 use Rattle.uvl_outside.specs.Files.{Contents}
-use Rattle.uvl_model.specs.Products.{Products, ProductsOfTree}
-use Rattle.uvl_model.specs.Rows.{Rows}
-use Rattle.uvl_model.specs.Tree.{Tree}
+use Rattle.uvl_tree_model.specs.Products.{Products, ProductsOfTree}
+use Rattle.uvl_tree_model.specs.Rows.{Rows}
+use Rattle.uvl_tree_model.specs.Tree.{Tree}
 use Rattle.uvl_run.specs.Loading.{LoadsModel, SaysTree}
 
 -- the products of the rows are those of the tree that the bytes say

@@ -1,7 +1,7 @@
 -- The marks are the values of the variables.
 use Rattle.std.proofs.Common.{◌≡◌, ◌+◌, ap, arith}
 use Rattle.dd_store.specs.Follow.{assignment_of}
-use Rattle.uvl_model.specs.Names.{feature_names}
+use Rattle.uvl_tree_model.specs.Names.{feature_names}
 use Rattle.uvl_compile.proofs.ChosenNames.{marks_choose}
 use Rattle.uvl_compile.proofs.laws.marks_choose_features.Goals as goal
 

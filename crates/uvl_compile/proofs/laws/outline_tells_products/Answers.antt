@@ -4,19 +4,19 @@ use Rattle.std.specs.List.{list_all, All}
 use Rattle.std.proofs.lemmas.List.{append-nil}
 use Rattle.std.proofs.lemmas.Option.{unwrap_or-slice_get}
 use Rattle.dd_store.specs.Follow.{assignment_of}
-use Rattle.uvl_model.specs.declared.rows.GroupRow.{GroupRow}
-use Rattle.uvl_model.specs.Check.{is_marked, group_holds}
-use Rattle.uvl_model.specs.Laws.{RowsCheckProducts}
-use Rattle.uvl_model.specs.Names.{feature_names, chosen_names}
-use Rattle.uvl_model.specs.Products.{Products}
-use Rattle.uvl_model.specs.Rows.{Rows}
-use Rattle.uvl_model.specs.Sound.{IsSound}
-use Rattle.uvl_model.specs.Spelling.{Spells, numbered, group_rows}
-use Rattle.uvl_model.specs.Tree.{Tree}
+use Rattle.uvl_tree_model.specs.declared.rows.GroupRow.{GroupRow}
+use Rattle.uvl_tree_model.specs.Check.{is_marked, group_holds}
+use Rattle.uvl_tree_model.specs.Laws.{RowsCheckProducts}
+use Rattle.uvl_tree_model.specs.Names.{feature_names, chosen_names}
+use Rattle.uvl_tree_model.specs.Products.{Products}
+use Rattle.uvl_tree_model.specs.Rows.{Rows}
+use Rattle.uvl_tree_model.specs.Sound.{IsSound}
+use Rattle.uvl_tree_model.specs.Spelling.{Spells, numbered, group_rows}
+use Rattle.uvl_tree_model.specs.Tree.{Tree}
 use Rattle.uvl_compile.specs.declared.outline.Entry.{Entry}
 use Rattle.uvl_compile.specs.Choice.{is_allowed}
 use Rattle.uvl_compile.specs.Outline.{outline_of}
-use Rattle.uvl_model.specs.OptionalGroups.{GroupsAreMandatoryOrOptional, IsMandatoryOrOptional}
+use Rattle.uvl_tree_model.specs.OptionalGroups.{GroupsAreMandatoryOrOptional, IsMandatoryOrOptional}
 use Rattle.uvl_compile.proofs.Allowed.{tree_allowed}
 use Rattle.uvl_compile.proofs.ChosenNames.{values_from, values_mark, values_at, allowed_alike}
 use Rattle.uvl_compile.proofs.Entries.{length-entries_of}

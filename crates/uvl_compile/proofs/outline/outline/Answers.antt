@@ -3,8 +3,8 @@ use Rattle.std.proofs.Common.{◌≡◌, ℕ, ◌+◌, ◌-◌, ◌<◌, true, L
 use Rattle.std.specs.Prelude.{replicate}
 use Rattle.std.proofs.lemmas.List.{drop_all, length-replicate}
 use Rattle.uvl_base.specs.Limits.{most_depth}
-use Rattle.uvl_model.specs.declared.rows.GroupRow.{GroupRow}
-use Rattle.uvl_model.specs.Spelling.{size_of, group_rows}
+use Rattle.uvl_tree_model.specs.declared.rows.GroupRow.{GroupRow}
+use Rattle.uvl_tree_model.specs.Spelling.{size_of, group_rows}
 use Rattle.uvl_compile.specs.declared.outline.Entry.{Entry}
 use Rattle.uvl_compile.specs.Entering.{IsWithin, with_group, AreShallow}
 use Rattle.uvl_compile.specs.Outline.{outline_of, IsOutlineOf}

@@ -1,7 +1,7 @@
 -- Each name that is that of a feature goes to those that the marks stand for.
 use Rattle.std.proofs.Common.{◌≡◌, Bool, false, length, replicate, List, [], sym, subst, arith}
-use Rattle.uvl_model.specs.Marks.{StandFor}
-use Rattle.uvl_model.specs.Products.{Products}
+use Rattle.uvl_tree_model.specs.Marks.{StandFor}
+use Rattle.uvl_tree_model.specs.Products.{Products}
 use Rattle.uvl_run.proofs.Marking.{stand-none, stand-next}
 use Rattle.uvl_run.proofs.state.mark.Goals as goal
 

@@ -1,7 +1,7 @@
 -- The diagram is that of a void family exactly where its value is always no.
 use Rattle.std.proofs.Common.{◌≡◌, false, not, subst}
-use Rattle.uvl_model.specs.Family.{is_void}
-use Rattle.uvl_model.specs.Products.{Products}
+use Rattle.uvl_tree_model.specs.Family.{is_void}
+use Rattle.uvl_tree_model.specs.Products.{Products}
 use Rattle.uvl_run.specs.State.{State}
 use Rattle.uvl_run.proofs.Compiling.{void-constant, not_void-none}
 use Rattle.uvl_run.proofs.state.State.is_void.Goals as goal
