@@ -1,9 +1,10 @@
 //! A model of both kinds of groups, row by row, and each cause for which no model is made.
-use crate::texts::{chain, model_of};
+use crate::texts::model_of;
 use std::alloc::Global;
 use std::fmt::Write;
 use std::process::Abort;
 use std::test::Fail;
+use uvl_text_tests::texts::chain;
 use uvl_tree_model::{FeatureNo, FeatureRow, GroupRow};
 use uvl_tree_resolve::ResolveFault;
 

@@ -1,7 +1,8 @@
-//! Each call on its happy path, and the limit on variables.
+//! Each call on its happy path, the limit on variables, and a full table with and without what can be freed.
 ghost use Rattle.dd_store.specs.Table.{IsLive};
 
-use dd_store::{AddRefusal, Handle, NodeNo, Store};
+use dd_store::{AddRefusal, Handle, NodeNo, Refusal, Store};
+use std::alloc::Global;
 use std::process::Abort;
 use std::test::Fail;
 
@@ -64,5 +65,52 @@ fn the_4097th_variable_is_refused(rt: HostRuntime) -> Result<(), Fail> {
     }
     assert!(rt; store.add_variable(rt.alloc()) == Err(AddRefusal::TooManyVariables));
     assert!(rt; store.variables() == 4096);
+    Ok(())
+}
+
+/// Adds a variable and makes the node that is yes where the variable is. Its handle is answered.
+fn literal(alloc: Global, store: &mut Store) -> Result<Result<Handle, Refusal>, Fail>
+    ensures { IfOk result (λ answer. IfOk answer (IsLive store.new)) }
+{
+    let variable = store.add_variable(alloc)?;
+    let no = store.constant(false)?;
+    let yes = store.constant(true)?;
+    let literal = store.node(alloc, variable, &no, &yes);
+    store.release(no);
+    store.release(yes);
+    Ok(literal)
+}
+
+#[test]
+fn a_table_full_of_held_nodes_refuses(rt: HostRuntime) -> Result<(), Fail> {
+    let alloc = rt.alloc();
+    let mut store = Store::new(alloc, 16)?;
+    for _ in 0..16 {
+        // a handle that is only dropped stays live
+        literal(alloc, &mut store)??;
+    }
+    let refused = literal(alloc, &mut store)?;
+    // beside the sixteen the two constants were held
+    let why = Some(Refusal::OverBudget { nodes: 16, roots: 18 });
+    assert!(rt; refused.err() == why);
+    assert!(rt; store.collect() == 0);
+    assert!(rt; store.nodes() == 16);
+    Ok(())
+}
+
+#[test]
+fn a_full_table_frees_what_nobody_holds(rt: HostRuntime) -> Result<(), Fail> {
+    let alloc = rt.alloc();
+    let mut store = Store::new(alloc, 16)?;
+    let kept = literal(alloc, &mut store)??;
+    for _ in 0..40 {
+        let other = literal(alloc, &mut store)??;
+        store.release(other);
+    }
+    // The 16th and the 31st of the others found the table full, and freed fifteen each.
+    assert!(rt; store.nodes() == 11);
+    assert!(rt; store.collect() == 10);
+    assert!(rt; store.nodes() == 1);
+    drop(kept);
     Ok(())
 }

@@ -1,5 +1,6 @@
 //! The first named fault of a text's tokens, by rows and at the limits.
-use crate::texts::{FRONT, Parts, chain, joined, tokens_of};
+use crate::texts::{Parts, chain, joined};
+use crate::tokens::{FRONT, tokens_of};
 use std::alloc::Global;
 use std::process::Abort;
 use std::test::Fail;

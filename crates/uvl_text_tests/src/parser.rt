@@ -1,7 +1,8 @@
 //! What the parser answers for whole texts: trees, and places with kinds of faults. The answers follow
 //! from the grammar by hand.
 use crate::printing::{put_file, put_placed};
-use crate::texts::{FRONT, Parts, chain, joined, tokens_of};
+use crate::texts::{Parts, chain, joined};
+use crate::tokens::{FRONT, tokens_of};
 use std::alloc::Global;
 use std::process::Abort;
 use std::test::Fail;

@@ -1,5 +1,5 @@
 //! The lexer over the rows of the language's description: each token by one sign, and each refusal.
-use crate::texts::tokens_of;
+use crate::tokens::tokens_of;
 use std::alloc::{AllocError, Global};
 use std::process::Abort;
 use std::test::Fail;
