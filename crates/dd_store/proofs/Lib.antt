@@ -12,8 +12,10 @@ pub mod SizeLemmas
 pub mod AlikeLemmas
 pub mod ReachedLemmas
 pub mod FreeLemmas
+pub mod CofactorLemmas
 pub mod LastLemmas
 pub mod LevelLemmas
+pub mod StayLemmas
 pub mod ShortLemmas
 pub mod LevelReachedLemmas
 pub mod LevelAgainLemmas

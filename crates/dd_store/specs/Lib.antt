@@ -10,3 +10,4 @@ pub mod Law
 pub mod Size
 pub mod SizeLaws
 pub mod Short
+pub mod Exhausted

@@ -1,6 +1,7 @@
 //! The store: one table of diagrams under a budget, its live handles and its look-up of nodes.
 ghost use Rattle.std.specs.Prelude.{◌≡◌, ℕ, ◌≤◌, ◌<◌, [], IfOk};
 
+mod collect;
 mod handles;
 mod node;
 mod read;
