@@ -16,6 +16,8 @@ pub mod CofactorLemmas
 pub mod LastLemmas
 pub mod LevelLemmas
 pub mod StayLemmas
+pub mod MarkLemmas
+pub mod CollectLemmas
 pub mod ShortLemmas
 pub mod LevelReachedLemmas
 pub mod LevelAgainLemmas

@@ -3,6 +3,8 @@ pub mod Order
 pub mod Follow
 pub mod Reached
 pub mod Table
+pub mod Slots
+pub mod Marks
 pub mod Handles
 pub mod Changes
 pub mod Kept

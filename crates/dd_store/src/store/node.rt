@@ -6,7 +6,7 @@ use crate::handle::Handle;
 use crate::refusal::{OutOfMemory, Refusal};
 use crate::row::{NodeNo, Row, Var};
 use crate::store::Store;
-use crate::store::room::push_within_capacity;
+use crate::store::room::count_up_to;
 use std::alloc::{AllocError, Global};
 
 impl Store {
@@ -82,11 +82,12 @@ impl Store {
 
     /// The node that has a row, where there is one. It takes no memory and collects nothing.
     pub fn find(&self, row: Row) -> Option<NodeNo>
+        requires { IsVariable self.now row.var.0 }
         ensures found { IfSome result (λ k. HasEnds self.now k.0 row.var.0 row.low.0 row.high.0) }
         ensures absent { IfNone result ((n : ℕ) → row_of self.now n ≢ Some row) }
         ensures sound { IsSound self.now }
     {
-        self.numbers.get(&row).copied()
+        self.slots.find(row)
     }
 
     /// A handle on a new node with this row, which no node has. A full table is collected before.
@@ -112,13 +113,12 @@ impl Store {
         ensures over_budget { node_count self.old ≡ self.old.budget → AreKeptAlive self.old →
             result ≡ Err (Refusal.OverBudget self.old.budget (handle_count self.old)) }
     {
-        if self.nodes < self.budget {
+        if self.nodes() < self.budget {
             return Ok(self.add(alloc, row)?);
         }
-        self.collect();
-        if self.nodes == self.budget {
+        if self.collect() == 0 {
             return Err(Refusal::OverBudget {
-                nodes: self.nodes,
+                nodes: self.budget,
                 roots: self.live,
             });
         }
@@ -144,13 +144,10 @@ impl Store {
         if self.live == u32::MAX {
             return Err(AllocError);
         }
-        self.slots.reserve(1)?;
         self.counts.reserve(1)?;
-        let node = NodeNo(self.nodes + 2);
-        self.numbers.insert(row, node)?;
-        push_within_capacity(&mut self.slots, Some(row));
-        push_within_capacity(&mut self.counts, 1);
-        self.nodes += 1;
+        let node = self.slots.add(alloc, row)?;
+        count_up_to(&mut self.counts, self.slots.len());
+        self.counts[node.0 as usize] += 1;
         self.live += 1;
         Ok(Handle { node })
     }

@@ -36,7 +36,9 @@ impl Store {
         }
         let var = Var(count);
         self.order.reserve(1)?;
-        self.levels.push(count)?;
+        self.levels.reserve(1)?;
+        self.slots.add_variable(alloc)?;
+        push_within_capacity(&mut self.levels, count);
         push_within_capacity(&mut self.order, var);
         Ok(var)
     }
