@@ -122,11 +122,6 @@ same-decided t m n r sound live_m live_n tested = (forth, back)
     back : HaveSameValues t m n → IsTrue r
     back same = tested ∙ eq-eqb m n (same-place t m n sound live_m live_n same)
 
--- a row that was read is that of the node
-pub row-read : (t : Table) (i : Index) (n : ℕ) (o : Option Row) → IsKept t i → IsThere (row_of t) n
-    → o ≡ get_or t.slots n o → row_of t n ≡ o
-row-read t i n o kept there read = get_or_default t.slots n None o (slot-within t n (omega arith) there) ∙ sym read
-
 -- a node's value isn't one for all assignments
 pub node-varies : (t : Table) (n : ℕ) (r : Row) (b : Bool) → IsSound t → IsLive t n → row_of t n ≡ Some r → ((a : ℕ → Bool) → value_of t n a ≡ b) → ⊥
 node-varies t n r b sound live is same =

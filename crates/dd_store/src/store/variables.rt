@@ -38,8 +38,8 @@ impl Store {
         self.order.reserve(1)?;
         self.levels.reserve(1)?;
         self.slots.add_variable(alloc)?;
-        push_within_capacity(&mut self.levels, count);
         push_within_capacity(&mut self.order, var);
+        push_within_capacity(&mut self.levels, count);
         Ok(var)
     }
 
