@@ -39,11 +39,11 @@ there-other old k n free large there same =
     true≢false (sym (there (let large' : 2 ≤ n = omega arith in large')) ∙ ap is_some (ap old same ∙ free))
 
 -- and keeps its row
-there-same : (old new : ℕ → Option Row) (k : ℕ) (r : Row) → Adds old new k r → (n : ℕ) → IsThere old n → new n ≡ old n
+pub there-same : (old new : ℕ → Option Row) (k : ℕ) (r : Row) → Adds old new k r → (n : ℕ) → IsThere old n → new n ≡ old n
 there-same old new k r adds n there = adds.others n (there-other old k n adds.free adds.no_constant there)
 
 -- and is still there
-there-still : (old new : ℕ → Option Row) (k : ℕ) (r : Row) → Adds old new k r → (n : ℕ) → IsThere old n → IsThere new n
+pub there-still : (old new : ℕ → Option Row) (k : ℕ) (r : Row) → Adds old new k r → (n : ℕ) → IsThere old n → IsThere new n
 there-still old new k r adds n there = λ large. ap is_some (there-same old new k r adds n there) ∙ there large
 
 -- a row after the addition is the new one or one from before
@@ -56,7 +56,7 @@ row-cases old new k r adds n s is =
     ]
 
 -- the rows stay reduced
-reduced-add : (order : List Var) (old new : ℕ → Option Row) (k : ℕ) (r : Row) → AreReduced order old → CanTake order old r → Adds old new k r → AreReduced order new
+pub reduced-add : (order : List Var) (old new : ℕ → Option Row) (k : ℕ) (r : Row) → AreReduced order old → CanTake order old r → Adds old new k r → AreReduced order new
 reduced-add order old new k r reduced can adds = record {
   distinct = reduced.distinct;
   no_is_constant = adds.others 0 (λ same. let large = adds.no_constant in absurd (omega arith)) ∙ reduced.no_is_constant;
@@ -90,13 +90,13 @@ reduced-add order old new k r reduced can adds = record {
     unique' m n s (inr old_m) (inr old_n) = reduced.unique m n s old_m.1 old_n.1
 
 -- every constant and node keeps its value
-value-add : (order : List Var) (old new : ℕ → Option Row) (k : ℕ) (r : Row) → AreReduced order old → Adds old new k r
+pub value-add : (order : List Var) (old new : ℕ → Option Row) (k : ℕ) (r : Row) → AreReduced order old → Adds old new k r
     → (a : ℕ → Bool) (n : ℕ) → IsThere old n → value_in order new a n ≡ value_in order old a n
 value-add order old new k r reduced adds a n there =
     ap (λ m. m == 1) (follow-same order old new a (there-same old new k r adds) (λ m s b is. reduced.ends_there m s b is) n there)
 
 -- the new node has the value of the end that the assignment takes
-value-new : (order : List Var) (old new : ℕ → Option Row) (k : ℕ) (r : Row) → AreReduced order old → CanTake order old r → Adds old new k r
+pub value-new : (order : List Var) (old new : ℕ → Option Row) (k : ℕ) (r : Row) → AreReduced order old → CanTake order old r → Adds old new k r
     → (a : ℕ → Bool) → value_in order new a k ≡ (if a r.var.0 then value_in order old a r.high.0 else value_in order old a r.low.0)
 value-new order old new k r reduced can adds a =
     let b = a r.var.0 in

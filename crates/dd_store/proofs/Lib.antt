@@ -18,6 +18,7 @@ pub mod LevelLemmas
 pub mod StayLemmas
 pub mod MarkLemmas
 pub mod CollectLemmas
+pub mod ExhaustedLemmas
 pub mod ShortLemmas
 pub mod LevelReachedLemmas
 pub mod LevelAgainLemmas

@@ -15,7 +15,7 @@ impl Store {
     ghost use Rattle.dd_store.specs.Table.{node_count, handle_count, value_of};
     ghost use Rattle.dd_store.specs.Changes.{Keeps, Grows, AddsRow, IsFullFor, AreKeptAlive};
     ghost use Rattle.dd_store.specs.Changes.{IsCollected, IsCollectedBut};
-    ghost use Rattle.dd_store.specs.Exhausted.{IsCauseFor};
+    ghost use Rattle.dd_store.specs.Exhausted.{IsCauseFor, asked_by};
     ghost use Rattle.dd_store.specs.Handles.{KeepsHandles, GainsHandle};
 
     /// A handle whose value is that of `high` where `var` is true, and else that of `low`. It stands on the end that
@@ -98,8 +98,7 @@ impl Store {
         requires differ { row.low.0 ≢ row.high.0 }
         requires absent { (n : ℕ) → row_of self.old n ≢ Some row }
         ensures row { IfOk result (λ h. row_of self.new h ≡ Some row) }
-        ensures value { IfOk result (λ h. (a : ℕ → Bool) → value_of self.new h a ≡
-            (if a row.var.0 then value_of self.old row.high.0 a else value_of self.old row.low.0 a)) }
+        ensures value { IfOk result (λ h. (a : ℕ → Bool) → value_of self.new h a ≡ asked_by self.old row a) }
         ensures gained { IfOk result (GainsHandle self.old self.new) }
         ensures refused { OnErr result (KeepsHandles self.old self.new) }
         ensures grows { Grows self.old self.new 1 }
@@ -113,9 +112,32 @@ impl Store {
         ensures over_budget { node_count self.old ≡ self.old.budget → AreKeptAlive self.old →
             result ≡ Err (Refusal.OverBudget self.old.budget (handle_count self.old)) }
     {
-        if self.nodes() < self.budget {
-            return Ok(self.add(alloc, row)?);
+        if self.nodes() == self.budget {
+            self.collect_and_add(alloc, row)
+        } else {
+            Ok(self.add(alloc, row)?)
         }
+    }
+
+    /// A handle on a new node with this row, which no node has, in a full table, which is collected before.
+    fn collect_and_add(&mut self, alloc: Global, row: Row) -> Result<Handle, Refusal>
+        requires variable { IsVariable self.old row.var.0 }
+        requires ends_live { (b : Bool) → IsLive self.old (end_of row b) }
+        requires above { (b : Bool) → IsAbove self.old row.var.0 (end_of row b) }
+        requires differ { row.low.0 ≢ row.high.0 }
+        requires absent { (n : ℕ) → row_of self.old n ≢ Some row }
+        requires full { node_count self.old ≡ self.old.budget }
+        ensures row { IfOk result (λ h. row_of self.new h ≡ Some row) }
+        ensures value { IfOk result (λ h. (a : ℕ → Bool) → value_of self.new h a ≡ asked_by self.old row a) }
+        ensures gained { IfOk result (GainsHandle self.old self.new) }
+        ensures refused { OnErr result (KeepsHandles self.old self.new) }
+        ensures grows { Grows self.old self.new 1 }
+        ensures collected { IfOk result (IsCollectedBut self.old self.new) }
+        ensures collected_no_more { OnErr result (IsCollected self.old self.new) }
+        ensures cause { IfErr result (IsCauseFor self.old self.new row) }
+        ensures over_budget { AreKeptAlive self.old →
+            result ≡ Err (Refusal.OverBudget self.old.budget (handle_count self.old)) }
+    {
         if self.collect() == 0 {
             return Err(Refusal::OverBudget {
                 nodes: self.budget,
