@@ -1,12 +1,11 @@
 -- A node that is added: the rows stay reduced, the values stay, and the fields stay tied to the table.
-use Rattle.std.proofs.Common.{◌≡◌, ◌≢◌, ◌⊎◌, ℕ, suc, Bool, ◌==◌, ◌+◌, ◌<◌, ◌≤◌, true, false, if◌then◌else◌, List, [], ◌∷◌, length, sum, Option, Some, None, is_some, IfSome, IfNone, get_or, refl, ap, sym, ◌∙◌, subst, inl, inr, arith}
+use Rattle.std.proofs.Common.{◌≡◌, ◌≢◌, ◌⊎◌, ℕ, Bool, ◌==◌, ◌+◌, ◌<◌, ◌≤◌, true, false, if◌then◌else◌, List, [], ◌∷◌, length, sum, Option, Some, None, is_some, IfSome, get_or, refl, ap, sym, ◌∙◌, subst, inl, inr, arith}
 use Rattle.std.proofs.Math.ListN.{set, length-set}
 use Rattle.std.proofs.lemmas.Bool.{cases_eq, true≢false}
-use Rattle.std.proofs.lemmas.List.{get_or_past}
 use Rattle.dd_store.specs.declared.row.Row.{Row}
 use Rattle.dd_store.specs.declared.row.Var.{Var}
 use Rattle.dd_store.specs.declared.row.NodeNo.{NodeNo}
-use Rattle.dd_store.specs.Slots.{Nodes, AddsNode, mark_at}
+use Rattle.dd_store.specs.Slots.{Nodes, AddsNode}
 use Rattle.dd_store.specs.Order.{level_in, level_of_row, IsIn}
 use Rattle.dd_store.specs.Follow.{end_of, value_in, IsThere}
 use Rattle.dd_store.specs.Table.{Table, row_of, rows_in, node_count, handles_on, value_of, IsLive, HasEnds, AreReduced, IsSound}

@@ -1,6 +1,6 @@
 -- A collection: marked nodes stay, the others leave.
-use Rattle.std.proofs.Common.{◌≡◌, ◌↔◌, ℕ, ◌+◌, ◌<◌, ◌≤◌, ◌==◌, Bool, true, false, cond, if◌then◌else◌, List, [], ◌∷◌, ◌++◌, length, Option, Some, None, is_some, get_or, refl, ap, sym, ◌∙◌, subst, inl, inr, arith}
-use Rattle.std.specs.List.{All, Contains}
+use Rattle.std.proofs.Common.{◌≡◌, ℕ, ◌+◌, ◌<◌, ◌≤◌, ◌==◌, Bool, true, false, cond, if◌then◌else◌, List, [], ◌∷◌, ◌++◌, length, Option, Some, None, is_some, get_or, refl, ap, sym, ◌∙◌, subst, inl, inr, arith}
+use Rattle.std.specs.List.{All}
 use Rattle.std.proofs.lemmas.Bool.{cases_lt, true≢false}
 use Rattle.std.proofs.lemmas.List.{get_or_past}
 use Rattle.std.proofs.lemmas.List.Elements.{All-append, All-weaker, All-nil, All-cons, All-head, All-tail}
@@ -11,11 +11,10 @@ use Rattle.dd_store.specs.Follow.{end_of, step, follow, IsThere}
 use Rattle.dd_store.specs.Reached.{reached, KeepsReached}
 use Rattle.dd_store.specs.Marks.{IsDone, MarksBelow}
 use Rattle.dd_store.specs.Slots.{Nodes, Sweeps, mark_at}
-use Rattle.dd_store.specs.Table.{Table, row_of, rows_in, node_count, handles_on, IsLive, AreReduced, IsSound}
+use Rattle.dd_store.specs.Table.{Table, row_of, rows_in, node_count, IsLive, AreReduced, IsSound}
 use Rattle.dd_store.specs.Changes.{Keeps, IsKeptAlive, IsCollected}
 use Rattle.dd_store.specs.Kept.{Index, IsKept}
 use Rattle.dd_store.proofs.ChangeLemmas.{All-front, All-back}
-use Rattle.dd_store.proofs.SizeLemmas.{in_from}
 
 -- what is closed under ends has all that it reaches
 pub reached-all : (P : ℕ → Type 0) (vs : List Var) (rows : ℕ → Option Row) → ((n : ℕ) (r : Row) (b : Bool) → rows n ≡ Some r → P n → P (end_of r b))

@@ -1,9 +1,9 @@
 -- A table that is full behind its collection: all that fills it is reached from live handles.
-use Rattle.std.proofs.Common.{◌≡◌, ◌≢◌, ◌⊎◌, ℕ, zero, suc, ◌+◌, ◌*◌, ◌^◌, ◌<◌, ◌≤◌, ◌==◌, nat_eq, nat_le, Bool, true, false, cond, ◌||◌, if◌then◌else◌, List, [], ◌∷◌, ◌++◌, length, map, sum, filter, Option, Some, None, Result, Ok, Err, OnErr, is_some, get_or, refl, ap, sym, ◌∙◌, subst, inl, inr, arith}
-use Rattle.std.specs.List.{All, Contains, flat_map}
+use Rattle.std.proofs.Common.{◌≡◌, ◌≢◌, ◌⊎◌, ℕ, zero, suc, ◌+◌, ◌*◌, ◌^◌, ◌<◌, ◌≤◌, nat_eq, nat_le, Bool, true, false, cond, ◌||◌, if◌then◌else◌, List, [], ◌∷◌, length, map, sum, filter, Option, Some, None, Result, Ok, Err, OnErr, is_some, get_or, refl, ap, sym, ◌∙◌, subst, inl, inr, arith}
+use Rattle.std.specs.List.{All, flat_map}
 use Rattle.std.specs.Cmp.{nat_eq_equiv}
 use Rattle.std.specs.Set.{is_member, unique_keys, distinct_count}
-use Rattle.std.proofs.lemmas.Bool.{cases_lt, cases_eq, eqb-true, eq-eqb, le-leb, true≢false}
+use Rattle.std.proofs.lemmas.Bool.{cases_lt, cases_eq, eq-eqb, le-leb, true≢false}
 use Rattle.std.proofs.Math.Nat.{mul-le-mul_right}
 use Rattle.std.proofs.lemmas.Bool.Decides.{nat_tests}
 use Rattle.std.proofs.lemmas.List.{get_or_past}
@@ -16,8 +16,8 @@ use Rattle.dd_store.specs.Follow.{end_of, value_in, IsThere}
 use Rattle.dd_store.specs.Reached.{reached}
 use Rattle.dd_store.specs.Size.{Function, size}
 use Rattle.dd_store.specs.SizeLaws.{function_of}
-use Rattle.dd_store.specs.Table.{Table, row_of, rows_in, node_count, handle_count, handles_on, value_of, IsLive, IsVariable, IsAbove, AreReduced, IsSound}
-use Rattle.dd_store.specs.Changes.{Keeps, Grows, IsCollected, IsCollectedBut, IsFullFor, AreKeptAlive}
+use Rattle.dd_store.specs.Table.{Table, row_of, rows_in, node_count, handle_count, value_of, IsLive, IsVariable, IsAbove, AreReduced}
+use Rattle.dd_store.specs.Changes.{Keeps, Grows, IsCollected, IsCollectedBut, AreKeptAlive}
 use Rattle.dd_store.specs.Handles.{KeepsHandles}
 use Rattle.dd_store.specs.Exhausted.{IsExhausted, IsPartialResult, HasHeld, asked_by, value_at}
 use Rattle.dd_store.proofs.AddLemmas.{CanTake, Adds, reduced-add, value-add, value-new, there-same, there-still}
@@ -231,11 +231,11 @@ module _ (t m : Table) (r : Row) (keeps : Keeps t m) (collected : IsCollected t 
   no-constant n s is = elim (cases_lt n 2) [
     | inr past ↦ le-leb 2 n past
     | inl small ↦ elim (cases_eq n 0) [
-        | inl zero' ↦ absurd (true≢false (ap is_some (sym is ∙ ap (row_of m) zero' ∙ keeps.sound.reduced.rows.no_is_constant)))
-        | inr other ↦
-            let one : n ≡ 1 = omega arith in
-            absurd (true≢false (ap is_some (sym is ∙ ap (row_of m) one ∙ keeps.sound.reduced.rows.yes_is_constant)))
-      ]
+      | inl zero' ↦ absurd (true≢false (ap is_some (sym is ∙ ap (row_of m) zero' ∙ keeps.sound.reduced.rows.no_is_constant)))
+      | inr other ↦
+          let one : n ≡ 1 = omega arith in
+          absurd (true≢false (ap is_some (sym is ∙ ap (row_of m) one ∙ keeps.sound.reduced.rows.yes_is_constant)))
+    ]
   ]
 
   in-nodes : (n : ℕ) (s : Row) → row_of m n ≡ Some s → In n (filter (nat_le 2) (flat_map (reached m.order (row_of m)) from))

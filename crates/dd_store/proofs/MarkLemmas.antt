@@ -1,14 +1,14 @@
 -- Marks that spread down from the live handles.
-use Rattle.std.proofs.Common.{◌≡◌, ◌⊎◌, ℕ, suc, ◌+◌, ◌<◌, ◌==◌, nat_eq, Bool, true, false, cond, if◌then◌else◌, List, [], ◌∷◌, ◌++◌, length, Option, Some, None, is_some, get_or, refl, ap, sym, ◌∙◌, subst, inl, inr, arith}
+use Rattle.std.proofs.Common.{◌≡◌, ◌⊎◌, ℕ, suc, ◌+◌, ◌<◌, ◌==◌, nat_eq, Bool, true, false, cond, if◌then◌else◌, List, [], ◌∷◌, length, Option, Some, get_or, refl, ap, sym, ◌∙◌, subst, inl, inr, arith}
 use Rattle.std.specs.List.{Contains}
 use Rattle.std.proofs.lemmas.Bool.{cases_eq, eqb-true, true≢false}
 use Rattle.std.proofs.lemmas.Bool.Decides.{nat_tests}
 use Rattle.dd_store.specs.declared.row.Row.{Row}
 use Rattle.dd_store.specs.declared.row.Var.{Var}
 use Rattle.dd_store.specs.Order.{level_in, level_of_row, IsIn}
-use Rattle.dd_store.specs.Follow.{end_of, step, IsThere}
+use Rattle.dd_store.specs.Follow.{end_of, step}
 use Rattle.dd_store.specs.Reached.{reached}
-use Rattle.dd_store.specs.Marks.{IsDone, HasDoneEnds, Spreads, IsReachedFrom, MarksBelow}
+use Rattle.dd_store.specs.Marks.{IsDone, HasDoneEnds, Spreads, MarksBelow}
 use Rattle.dd_store.specs.Table.{AreReduced}
 use Rattle.dd_store.proofs.FollowLemmas.{step-stays, level-stays}
 use Rattle.dd_store.proofs.SizeLemmas.{In, in_from, contains_from, in_left, in_right, in_parts}
@@ -111,12 +111,12 @@ spreads-node order rows old mid one two n r reduced is marked low high = record 
     ends' m is' = elim (high.ends m is') [
       | inr new ↦ inr new
       | inl before ↦ elim (low.ends m before) [
-          | inr new ↦ inr (ends-stay rows one two high.stays m new)
-          | inl first ↦ elim (fresh m first) [
-              | inr old' ↦ inl old'
-              | inl same ↦ inr (subst (HasDoneEnds rows two) (sym same) own)
-            ]
+        | inr new ↦ inr (ends-stay rows one two high.stays m new)
+        | inl first ↦ elim (fresh m first) [
+          | inr old' ↦ inl old'
+          | inl same ↦ inr (subst (HasDoneEnds rows two) (sym same) own)
         ]
+      ]
     ]
 
     of-end : (m : ℕ) (b : Bool) → Contains (reached order rows (end_of r b)) m → Contains (reached order rows n) m
@@ -128,12 +128,12 @@ spreads-node order rows old mid one two n r reduced is marked low high = record 
     reached' m is' = elim (high.reached m is') [
       | inr new ↦ inr (of-end m true new)
       | inl before ↦ elim (low.reached m before) [
-          | inr new ↦ inr (of-end m false new)
-          | inl first ↦ elim (fresh m first) [
-              | inr old' ↦ inl old'
-              | inl same ↦ inr (subst (λ (k : ℕ). Contains (reached order rows n) k) (sym same) (contains_from n (reached order rows n) (reached-itself order rows n)))
-            ]
+        | inr new ↦ inr (of-end m false new)
+        | inl first ↦ elim (fresh m first) [
+          | inr old' ↦ inl old'
+          | inl same ↦ inr (subst (λ (k : ℕ). Contains (reached order rows n) k) (sym same) (contains_from n (reached order rows n) (reached-itself order rows n)))
         ]
+      ]
     ]
 
 -- at first nothing is marked

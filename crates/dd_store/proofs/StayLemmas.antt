@@ -1,5 +1,5 @@
 -- What a full table refuses, over several calls.
-use Rattle.std.proofs.Common.{◌≡◌, ◌⊎◌, ℕ, ◌+◌, ◌<◌, ◌≤◌, Bool, zero, suc, List, [], ◌∷◌, ◌++◌, length, Option, Some, None, get_or, refl, ap, sym, ◌∙◌, subst, inl, inr, arith}
+use Rattle.std.proofs.Common.{◌≡◌, ◌⊎◌, ℕ, ◌<◌, ◌≤◌, Bool, suc, List, [], ◌∷◌, ◌++◌, length, Option, Some, None, get_or, refl, ap, sym, ◌∙◌, subst, inl, inr, arith}
 use Rattle.std.specs.List.{All, Contains, flat_map}
 use Rattle.std.proofs.lemmas.List.Elements.{All-weaker}
 use Rattle.dd_store.specs.declared.row.Row.{Row}
@@ -7,9 +7,9 @@ use Rattle.dd_store.specs.declared.row.Var.{Var}
 use Rattle.dd_store.specs.Follow.{value_in, IsThere}
 use Rattle.dd_store.specs.Reached.{reached}
 use Rattle.dd_store.specs.Size.{Function, cofactors, size}
-use Rattle.dd_store.specs.Table.{Table, row_of, rows_in, node_count, handle_count, value_of, IsLive}
-use Rattle.dd_store.specs.Changes.{Keeps, Grows}
-use Rattle.dd_store.specs.Exhausted.{IsExhausted, IsPartialResult, HasHeld, value_at, RefusalsCompose, RefusalsStay}
+use Rattle.dd_store.specs.Table.{Table, row_of, rows_in, node_count, IsLive}
+use Rattle.dd_store.specs.Changes.{Keeps}
+use Rattle.dd_store.specs.Exhausted.{IsPartialResult, HasHeld, value_at, RefusalsCompose, RefusalsStay}
 use Rattle.dd_store.proofs.SizeLemmas.{In, in_from, contains_from, in_left, in_right, in_parts, more-size}
 use Rattle.dd_store.proofs.CofactorLemmas.{cofactors-compose, cofactors-all}
 
@@ -50,13 +50,13 @@ refusals-stay old new last asked more nodes roots grows over =
       from = over.from;
       there = subst (λ (rs : ℕ → Option Row). All (IsThere rs) over.from) rows over.there;
       each = subst (λ (rs : ℕ → Option Row). All (IsFromHeld (IsLive old) asked last.order rs) over.from) rows
-      (subst (λ (vs : List Var). All (IsFromHeld (IsLive old) asked vs (row_of new)) over.from) order over.each);
+          (subst (λ (vs : List Var). All (IsFromHeld (IsLive old) asked vs (row_of new)) over.from) order over.each);
       all = subst (λ (rs : ℕ → Option Row). Reaches last.order rs over.from) rows
-      (subst (λ (vs : List Var). Reaches vs (row_of new) over.from) order over.all);
+          (subst (λ (vs : List Var). Reaches vs (row_of new) over.from) order over.all);
       few = over.few;
       roots_few = over.roots_few;
       apart = subst (λ (rs : ℕ → Option Row). AreApart last.order rs) rows
-      (subst (λ (vs : List Var). AreApart vs (row_of new)) order over.apart);
+          (subst (λ (vs : List Var). AreApart vs (row_of new)) order over.apart);
       bound = let one = over.bound in let length' = ap length order in rw (← length', budget) one;
       size = over.size;
     }

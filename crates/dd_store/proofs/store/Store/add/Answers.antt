@@ -1,5 +1,5 @@
 -- The node is added with a handle on it.
-use Rattle.std.proofs.Common.{◌≡◌, ◌+◌, ◌<◌, ◌≤◌, List, ℕ, Bool, Option, None, get_or, length, sum, if◌then◌else◌, ap, sym, ◌∙◌, subst, refl, arith}
+use Rattle.std.proofs.Common.{◌≡◌, ◌+◌, ◌<◌, List, ℕ, Bool, get_or, length, sum, if◌then◌else◌, ap, sym, ◌∙◌, subst, refl, arith}
 use Rattle.std.proofs.Math.ListN.{set}
 use Rattle.dd_store.specs.Changes.{Grows}
 use Rattle.dd_store.specs.Handles.{GainsHandle}

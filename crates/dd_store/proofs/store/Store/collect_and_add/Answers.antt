@@ -1,8 +1,6 @@
 -- What is kept alive stays, and with the new node that is all; or the table is full with what is in use.
-use Rattle.std.proofs.Common.{◌≡◌, ◌+◌, ◌≤◌, ℕ, true, false, refl, ap, sym, ◌∙◌, arith}
-use Rattle.dd_store.specs.Table.{Table, row_of, node_count, handle_count}
-use Rattle.dd_store.specs.Changes.{IsFullFor, AreKeptAlive}
-use Rattle.dd_store.proofs.AddLemmas.{CanTake}
+use Rattle.std.proofs.Common.{◌≡◌, ◌+◌, true, false, refl, ap, sym, ◌∙◌, arith}
+use Rattle.dd_store.specs.Table.{Table, node_count, handle_count}
 use Rattle.dd_store.proofs.ExhaustedLemmas.{can-after, exhausted, none-goes, grows-behind, collected-but, collected-same, at-err}
 use Rattle.dd_store.proofs.store.Store.collect_and_add.Goals as goal
 
@@ -19,9 +17,11 @@ returns-then-collect-eq0-clause-cause c =
     let count : node_count m + c.collect.result ≡ node_count t = done.count in
     let same = done.keeps.budget in
     let before : node_count t ≡ t.budget = c.requires.full in
-    let full : node_count m ≡ m.budget = omega arith in
-    (record { differ = c.requires.differ; full = before; absent = c.requires.absent }, live,
-    exhausted t m r done.keeps done.collected done.handles can (c.requires.ends_live false) (c.requires.ends_live true) c.self.inside.live c.self.inside.budget full budget live)
+    let full : node_count m ≡ m.budget = omega arith in (
+      record { differ = c.requires.differ; full = before; absent = c.requires.absent },
+      live,
+      exhausted t m r done.keeps done.collected done.handles can (c.requires.ends_live false) (c.requires.ends_live true) c.self.inside.live c.self.inside.budget full budget live,
+    )
 
 pub add-requires-clause-above : goal.add-requires-clause-above
 add-requires-clause-above c =

@@ -1,7 +1,7 @@
 -- The node is marked, and then what its ends reach.
-use Rattle.std.proofs.Common.{◌≡◌, ◌<◌, ◌≤◌, ◌-◌, ℕ, List, Option, Some, None, false, true, length, get_or, ap, sym, ◌∙◌, subst, arith}
+use Rattle.std.proofs.Common.{◌≡◌, ◌≤◌, ℕ, List, Option, Some, None, false, true, length, get_or, ap, sym, ◌∙◌, subst, arith}
 use Rattle.dd_store.specs.declared.row.Row.{Row}
-use Rattle.dd_store.specs.Follow.{IsThere, end_of}
+use Rattle.dd_store.specs.Follow.{IsThere}
 use Rattle.dd_store.specs.Order.{level_in, level_of_row}
 use Rattle.dd_store.specs.Slots.{row_at, mark_at}
 use Rattle.dd_store.specs.Marks.{Spreads}
@@ -19,11 +19,16 @@ mark_from-requires t c =
     let here : level_of_row order (row_at c.args.slots.now c.args.node.0) ≡ level_in order c.in-Some.row.var.0 = ap (level_of_row order) is in
     let inside = c.requires.reduced.tested c.args.node.0 c.in-Some.row is in
     let below = c.requires.reduced.ends_below c.args.node.0 c.in-Some.row false is in
-    let there = c.requires.reduced.ends_there c.args.node.0 c.in-Some.row false is in
-    (omega arith,
-    (subst (λ (rs : List (Option Row)). AreReduced order (λ (n : ℕ). get_or rs n None)) (sym rows) c.requires.reduced,
-    (subst (λ (rs : List (Option Row)). IsThere (λ (n : ℕ). get_or rs n None) low) (sym rows) there,
-    subst (λ (rs : List (Option Row)). 2 ≤ length rs) (sym rows) c.requires.constants)))
+    let there = c.requires.reduced.ends_there c.args.node.0 c.in-Some.row false is in (
+      omega arith,
+      (
+        subst (λ (rs : List (Option Row)). AreReduced order (λ (n : ℕ). get_or rs n None)) (sym rows) c.requires.reduced,
+        (
+          subst (λ (rs : List (Option Row)). IsThere (λ (n : ℕ). get_or rs n None) low) (sym rows) there,
+          subst (λ (rs : List (Option Row)). 2 ≤ length rs) (sym rows) c.requires.constants,
+        ),
+      ),
+    )
 
 pub mark_from-requires-2 : goal.mark_from-requires-2
 mark_from-requires-2 t c =
@@ -35,11 +40,16 @@ mark_from-requires-2 t c =
     let here : level_of_row order (row_at c.args.slots.now c.args.node.0) ≡ level_in order c.in-Some.row.var.0 = ap (level_of_row order) is in
     let inside = c.requires.reduced.tested c.args.node.0 c.in-Some.row is in
     let below = c.requires.reduced.ends_below c.args.node.0 c.in-Some.row true is in
-    let there = c.requires.reduced.ends_there c.args.node.0 c.in-Some.row true is in
-    (omega arith,
-    (subst (λ (rs : List (Option Row)). AreReduced order (λ (n : ℕ). get_or rs n None)) (sym rows) c.requires.reduced,
-    (subst (λ (rs : List (Option Row)). IsThere (λ (n : ℕ). get_or rs n None) high) (sym rows) there,
-    subst (λ (rs : List (Option Row)). 2 ≤ length rs) (sym rows) c.requires.constants)))
+    let there = c.requires.reduced.ends_there c.args.node.0 c.in-Some.row true is in (
+      omega arith,
+      (
+        subst (λ (rs : List (Option Row)). AreReduced order (λ (n : ℕ). get_or rs n None)) (sym rows) c.requires.reduced,
+        (
+          subst (λ (rs : List (Option Row)). IsThere (λ (n : ℕ). get_or rs n None) high) (sym rows) there,
+          subst (λ (rs : List (Option Row)). 2 ≤ length rs) (sym rows) c.requires.constants,
+        ),
+      ),
+    )
 
 pub returns-clause-marks : goal.returns-clause-marks
 returns-clause-marks t c =
