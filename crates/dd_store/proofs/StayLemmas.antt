@@ -9,7 +9,7 @@ use Rattle.dd_store.specs.Reached.{reached}
 use Rattle.dd_store.specs.Size.{Function, cofactors, size}
 use Rattle.dd_store.specs.Table.{Table, row_of, rows_in, node_count, IsLive}
 use Rattle.dd_store.specs.Changes.{Keeps}
-use Rattle.dd_store.specs.Exhausted.{IsPartialResult, HasHeld, value_at, RefusalsCompose, RefusalsStay}
+use Rattle.dd_store.specs.Exhausted.{IsPartialResult, HasHeld, value_at, RefusalsCompose, RefusalsStay, RefusalsLoosen}
 use Rattle.dd_store.proofs.SizeLemmas.{In, in_from, contains_from, in_left, in_right, in_parts, more-size}
 use Rattle.dd_store.proofs.CofactorLemmas.{cofactors-compose, cofactors-all}
 
@@ -117,3 +117,18 @@ refusals-compose old mid new asked part more inner nodes roots one two stays bet
           | inl left ↦ in_left f (cofactors old.order asked) (asked ∷ held) left
           | inr right ↦ in_right f (cofactors old.order asked) (asked ∷ held) (inr right)
         ]
+
+pub refusals-loosen : RefusalsLoosen
+refusals-loosen old new asked more most nodes roots fewer over = record {
+  full = over.full;
+  nodes_is = over.nodes_is;
+  from = over.from;
+  there = over.there;
+  each = over.each;
+  all = over.all;
+  few = over.few;
+  roots_few = let few = over.roots_few in omega arith;
+  apart = over.apart;
+  bound = over.bound;
+  size = over.size;
+}

@@ -68,3 +68,9 @@ abbrev pub RefusalsStay : Type 0
 RefusalsStay =
     (old new last : Table) (asked : Function) (more nodes roots : ℕ) → Grows new last 0 →
     IsExhausted old new asked more nodes roots → IsExhausted old last asked more nodes roots
+
+-- More partial results might have been held.
+abbrev pub RefusalsLoosen : Type 0
+RefusalsLoosen =
+    (old new : Table) (asked : Function) (more most nodes roots : ℕ) → more ≤ most →
+    IsExhausted old new asked more nodes roots → IsExhausted old new asked most nodes roots

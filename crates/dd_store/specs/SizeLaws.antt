@@ -5,8 +5,8 @@ use Rattle.std.specs.List.{All, Contains}
 use Rattle.std.specs.Set.{distinct_count}
 use Rattle.dd_store.specs.declared.row.Row.{Row}
 use Rattle.dd_store.specs.declared.row.Var.{Var}
-use Rattle.dd_store.specs.Follow.{value_in, IsThere}
-use Rattle.dd_store.specs.Order.{level_in, IsIn}
+use Rattle.dd_store.specs.Follow.{step, value_in, IsThere}
+use Rattle.dd_store.specs.Order.{level_in, level_of_row, IsIn}
 use Rattle.dd_store.specs.Reached.{reached}
 use Rattle.dd_store.specs.Size.{Function, fixed, cofactors, size, level_size}
 use Rattle.dd_store.specs.Table.{AreReduced}
@@ -105,3 +105,11 @@ abbrev pub FixedIsCofactor : Type 0
 FixedIsCofactor =
     (order : List Var) (f : Function) (v : ℕ) (b : Bool) → IsIn order v →
     ((w : ℕ) → level_in order w < level_in order v → IsFreeOf w f) → Contains (cofactors order f) (fixed f v b)
+
+-- A constant or a node with a variable fixed, its own or one above it, has the value of what it leads to past the
+-- variable.
+abbrev pub FixedFollows : Type 0
+FixedFollows =
+    (order : List Var) (rows : ℕ → Option Row) → AreReduced order rows →
+    (n v : ℕ) (b : Bool) → level_in order v ≤ level_of_row order (rows n) →
+    fixed (function_of order rows n) v b ≡ function_of order rows (step (rows n) v n b)

@@ -53,12 +53,12 @@ fn mark_from(slots: &mut Slots, order: &[Var], node: NodeNo)
     ensures rows { slots.new.rows ≡ slots.old.rows }
     ensures variables { slots.new.variables ≡ slots.old.variables }
 {
-    let Some(row) = slots.row(node) else {
-        return;
-    };
     if slots.is_marked(node) {
         return;
     }
+    let Some(row) = slots.row(node) else {
+        return;
+    };
     slots.mark(node);
     mark_from(slots, order, row.low);
     mark_from(slots, order, row.high);

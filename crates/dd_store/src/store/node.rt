@@ -14,7 +14,7 @@ impl Store {
     ghost use Rattle.dd_store.specs.Table.{IsSound, IsLive, IsVariable, IsAbove, HasEnds, row_of, row_with};
     ghost use Rattle.dd_store.specs.Table.{node_count, handle_count, value_of};
     ghost use Rattle.dd_store.specs.Changes.{Keeps, Grows, AddsRow, IsFullFor, AreKeptAlive};
-    ghost use Rattle.dd_store.specs.Changes.{IsCollected, IsCollectedBut};
+    ghost use Rattle.dd_store.specs.Changes.{KeepsRows, IsCollected, IsCollectedBut};
     ghost use Rattle.dd_store.specs.Exhausted.{IsCauseFor, asked_by};
     ghost use Rattle.dd_store.specs.Handles.{KeepsHandles, GainsHandle};
 
@@ -48,7 +48,8 @@ impl Store {
         ensures refused { OnErr result (KeepsHandles self.old self.new) }
         ensures grows { Grows self.old self.new 1 }
 
-        // Where the table has room or the node, at most the asked node is new, and none at a refusal.
+        // Where the table has room or the node, no node leaves; at most the asked node is new, and none at a refusal.
+        ensures stays { ¬ IsFullFor self.old (row_with var.0 low.now high.now) → KeepsRows self.old self.new }
         ensures others { ¬ IsFullFor self.old (row_with var.0 low.now high.now) →
             IfOk result (λ h. (n : ℕ) → n ≢ h → row_of self.new n ≡ row_of self.old n) }
         ensures no_more { ¬ IsFullFor self.old (row_with var.0 low.now high.now) →
@@ -102,6 +103,7 @@ impl Store {
         ensures gained { IfOk result (GainsHandle self.old self.new) }
         ensures refused { OnErr result (KeepsHandles self.old self.new) }
         ensures grows { Grows self.old self.new 1 }
+        ensures stays { node_count self.old ≢ self.old.budget → KeepsRows self.old self.new }
         ensures others { node_count self.old ≢ self.old.budget →
             IfOk result (λ h. (n : ℕ) → n ≢ h → row_of self.new n ≡ row_of self.old n) }
         ensures no_more { node_count self.old ≢ self.old.budget → OnErr result (Grows self.old self.new 0) }
