@@ -3,6 +3,7 @@ pub mod Order
 pub mod Follow
 pub mod Reached
 pub mod Table
+pub mod Slots
 pub mod Handles
 pub mod Changes
 pub mod Kept

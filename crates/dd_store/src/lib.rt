@@ -5,6 +5,7 @@ mod handle;
 mod laws;
 mod refusal;
 mod row;
+mod slots;
 mod store;
 
 pub use handle::Handle;
