@@ -7,6 +7,10 @@ pub mod HandleLemmas
 pub mod ReadLemmas
 pub mod OrderLemmas
 pub mod AddLemmas
+pub mod ChainLemmas
+pub mod FindLemmas
+pub mod SlotLemmas
+pub mod MoveLemmas
 pub mod Computed
 pub mod SizeLemmas
 pub mod AlikeLemmas

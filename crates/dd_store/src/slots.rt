@@ -3,6 +3,11 @@ ghost use Rattle.std.specs.Prelude.{◌≡◌, ℕ, ◌≤◌, ◌<◌, ◌+◌,
 ghost use Rattle.std.specs.Prelude.{length, Some, ◌≢◌};
 ghost use Rattle.dd_store.specs.Limits.{most_budget};
 
+mod chains;
+mod find;
+mod moves;
+mod slot;
+
 use crate::refusal::OutOfMemory;
 use crate::row::{NodeNo, Row, Var};
 use std::alloc::{AllocError, Global};
