@@ -11,6 +11,7 @@ pub mod ChainLemmas
 pub mod FindLemmas
 pub mod SlotLemmas
 pub mod MoveLemmas
+pub mod GrowLemmas
 pub mod Computed
 pub mod SizeLemmas
 pub mod AlikeLemmas

@@ -1,10 +1,13 @@
 //! The chains of one variable: a head for each, and how many nodes hang in them.
-ghost use Rattle.std.specs.Prelude.{◌≡◌, ℕ, ◌<◌, ◌≤◌, ◌+◌, ◌*◌, ◌^◌, [], ◌∷◌, length, set, replicate, IfOk, IsTrue, ◌↔◌};
+ghost use Rattle.std.specs.Prelude.{◌≡◌, ℕ, ◌<◌, ◌≤◌, ◌+◌, ◌*◌, ◌^◌, [], ◌∷◌, length, set, replicate, IfOk, IfSome, IfNone};
 ghost use Rattle.dd_store.specs.Limits.{most_budget};
-ghost use Rattle.dd_store.specs.Chains.{head_at, bucket_of};
+ghost use Rattle.dd_store.specs.Chains.{head_at, bucket_of, AreChained};
+ghost use Rattle.dd_store.specs.Linked.{row_in, next_in, KeepsSlots, KeepsOthers};
 
 use crate::refusal::OutOfMemory;
-use crate::row::{NodeNo, Row};
+use crate::row::{NodeNo, Row, Var};
+use crate::slots::moves::move_chains;
+use crate::slots::slot::Slot;
 use std::alloc::Global;
 use std::marker::Model;
 
@@ -80,6 +83,24 @@ impl Chains {
         put_first(&mut self.heads, node, row)
     }
 
+    /// Doubles the heads where the nodes outgrow them. Where there is no memory for it, they stay as they are, and the
+    /// chains grow longer.
+    pub(crate) fn grow(&mut self, alloc: Global, slots: &mut [Slot], var: Var)
+        requires few { self.old.nodes ≤ most_budget }
+        requires chained { AreChained (next_in slots.old) (row_in slots.old) var.0 self.old.heads }
+        ensures chained { AreChained (next_in slots.new) (row_in slots.new) var.0 self.new.heads }
+        ensures nodes { self.new.nodes ≡ self.old.nodes }
+        ensures keeps { KeepsSlots slots.old slots.new }
+        ensures others { KeepsOthers slots.old slots.new var.0 }
+    {
+        if (self.nodes as usize) < self.heads.len() {
+            return;
+        }
+        if let Some(heads) = spread(alloc, slots, &self.heads, var) {
+            self.heads = heads;
+        }
+    }
+
     /// Empties the chains.
     pub(crate) fn clear(&mut self)
         ensures heads { self.new.heads ≡ replicate (width self.old) (record { 0 = 0 }) }
@@ -102,4 +123,24 @@ pub(crate) fn put_first(heads: &mut [NodeNo], node: NodeNo, row: &Row) -> NodeNo
     let first = heads[bucket];
     heads[bucket] = node;
     first
+}
+
+/// Twice as many heads, with the nodes in the chains of these; nothing where memory is wanting.
+fn spread(alloc: Global, slots: &mut [Slot], old: &[NodeNo], var: Var) -> Option<Vec<NodeNo>>
+    requires some { 0 < length old.now }
+    requires few { 2 * length old.now < 2 ^ 32 }
+    requires chained { AreChained (next_in slots.old) (row_in slots.old) var.0 old.now }
+    ensures chained { IfSome result (λ heads. AreChained (next_in slots.new) (row_in slots.new) var.0 heads.items) }
+    ensures size { IfSome result (λ heads. length heads.items ≡ 2 * length old.now) }
+    ensures refused { IfNone result (slots.new ≡ slots.old) }
+    ensures keeps { KeepsSlots slots.old slots.new }
+    ensures others { KeepsOthers slots.old slots.new var.0 }
+{
+    match vec![in alloc; NodeNo::NO; 2 * old.len()] {
+        Ok(mut heads) => {
+            move_chains(slots, old, &mut heads, var);
+            Some(heads)
+        }
+        Err(_) => None,
+    }
 }
