@@ -12,6 +12,9 @@ pub mod FindLemmas
 pub mod SlotLemmas
 pub mod MoveLemmas
 pub mod GrowLemmas
+pub mod RowCounts
+pub mod LinkLemmas
+pub mod PutLemmas
 pub mod Computed
 pub mod SizeLemmas
 pub mod AlikeLemmas

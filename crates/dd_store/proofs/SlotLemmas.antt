@@ -1,7 +1,9 @@
 -- Slots that keep their rows and marks.
-use Rattle.std.proofs.Common.{◌≡◌, ℕ, List, length, map, Option, Some, None, get_or, refl, sym, ap, ◌∙◌, subst}
+use Rattle.std.proofs.Common.{◌≡◌, ◌≢◌, ℕ, ◌+◌, ◌<◌, ◌≤◌, List, [], ◌∷◌, ◌++◌, length, map, inl, inr, arith, length-append, Option, Some, None, get_or, refl, sym, ap, ◌∙◌, subst}
 use Rattle.std.proofs.Math.ListN.{set, length-set, get_or-map}
 use Rattle.std.proofs.Math.Seq.{map-set_same}
+use Rattle.std.proofs.lemmas.Bool.{cases_lt}
+use Rattle.std.proofs.lemmas.List.{get_or_append_left, get_or_past, get_or_push}
 use Rattle.dd_store.specs.declared.row.Row.{Row}
 use Rattle.dd_store.specs.declared.row.NodeNo.{NodeNo}
 use Rattle.dd_store.specs.declared.slots.slot.Slot.{Slot}
@@ -47,3 +49,17 @@ pub others-put : (a b : List Slot) (xs ys : List NodeNo) (v size bucket node : �
 others-put a b xs ys v size bucket node hangs puts n other =
     let there = hangs-row v size bucket a node hangs in
     ap next_of_slot ((puts there.0 there.1).slots n (λ same. another-not v size bucket (row_in a node) hangs (subst (λ k. TestsAnother v (row_in a k)) same other)))
+
+-- a slot more at the end, and a slot that is set
+pub slot-push_other : (xs : List Slot) (s : Slot) (n m : ℕ) → length xs ≡ n → m ≢ n → slot_at (xs ++ s ∷ []) m ≡ slot_at xs m
+slot-push_other xs s n m is other =
+    elim (cases_lt m (length xs)) [
+      | inl inside ↦ get_or_append_left xs (s ∷ []) _ m inside
+      | inr past ↦ (let more = length-append xs (s ∷ []) in get_or_past (xs ++ s ∷ []) m _ (omega arith)) ∙ sym (get_or_past xs m _ past)
+    ]
+
+pub slot-push_same : (xs : List Slot) (s : Slot) (n : ℕ) → length xs ≡ n → slot_at (xs ++ s ∷ []) n ≡ s
+slot-push_same xs s n is = get_or_push xs s _ n is
+
+pub row-past : (xs : List Slot) (n : ℕ) → length xs ≤ n → row_in xs n ≡ None
+row-past xs n past = ap row_of_slot (get_or_past xs n _ past)
