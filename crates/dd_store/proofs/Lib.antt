@@ -15,6 +15,7 @@ pub mod GrowLemmas
 pub mod RowCounts
 pub mod LinkLemmas
 pub mod PutLemmas
+pub mod SweepLemmas
 pub mod Computed
 pub mod SizeLemmas
 pub mod AlikeLemmas

@@ -2,7 +2,7 @@
 use Rattle.std.proofs.Common.{◌≡◌, ◌≢◌, ◌⊎◌, ℕ, Bool, true, false, ◌+◌, ◌<◌, ◌≤◌, List, [], ◌∷◌, ◌++◌, length, map, Option, Some, None, is_some, get_or, refl, ap, sym, ◌∙◌, subst, inl, inr, arith, get_or-set_other, get_or-set_same, length-append}
 use Rattle.std.proofs.Math.ListN.{set, length-set}
 use Rattle.std.proofs.lemmas.Bool.{cases_eq, cases_lt, true≢false}
-use Rattle.std.proofs.lemmas.List.{map-append, map-set, length-map}
+use Rattle.std.proofs.lemmas.List.{map-append, map-set, length-map, get_or_default}
 use Rattle.dd_store.specs.declared.row.Row.{Row}
 use Rattle.dd_store.specs.declared.row.NodeNo.{NodeNo}
 use Rattle.dd_store.specs.declared.slots.slot.Slot.{Slot}
@@ -11,19 +11,11 @@ use Rattle.dd_store.specs.Limits.{most_budget}
 use Rattle.dd_store.specs.Table.{rows_in}
 use Rattle.dd_store.specs.Slots.{rows_testing}
 use Rattle.dd_store.specs.Chains.{Heads, IsChainOf, AreChained, HangsIn, bucket_of, head_at, width}
-use Rattle.dd_store.specs.Linked.{AreLinked, IsFree, row_in, next_in, next_of_slot, row_of_slot, slot_at, rows_of, heads_of, with_first}
+use Rattle.dd_store.specs.Linked.{AreLinked, IsFree, row_in, next_in, next_of_slot, row_of_slot, slot_at, rows_of, heads_of, with_first, IsPlace}
 use Rattle.dd_store.proofs.ChainLemmas.{keeps, puts, takes}
 use Rattle.dd_store.proofs.RowCounts.{rows_in-some, testing-some, rows_in-none, testing-none, rows_in-set, testing-set}
 use Rattle.dd_store.proofs.SlotLemmas.{row-at, slot-push_other, slot-push_same, row-past}
 use Rattle.dd_store.proofs.LinkLemmas.{PutsNode, puts-node}
-
--- the chain and the heads into which a node with this row is put
-pub record IsPlace (variables : List Heads) (n : ℕ) (r : Row) (next : NodeNo) (heads : Heads) : Type 0 where
-  pub known : r.var.0 < length variables
-  pub first : next.0 ≡ head_at (heads_of variables r.var.0).heads (bucket_of r (width (heads_of variables r.var.0)))
-  pub within : bucket_of r (width (heads_of variables r.var.0)) < width (heads_of variables r.var.0)
-  pub heads_are : heads.heads ≡ with_first (heads_of variables r.var.0).heads r n
-  pub nodes_are : heads.nodes ≡ (heads_of variables r.var.0).nodes + 1
 
 -- a node behind the last slot
 pub push-node : (xs : List Slot) (free nodes : ℕ) (variables : List Heads) (n : ℕ) (r : Row) (next : NodeNo) (heads : Heads)
@@ -144,3 +136,27 @@ reuse-node xs free nodes variables r next heads linked some place =
     back : (m : ℕ) → IsFree (set xs free s) m → (m ≡ free) ⊎ (m ≢ free) → IsFree xs m × (m ≢ free)
     back m q (inl same) = absurd (true≢false (ap is_some (sym (ap row_of_slot here) ∙ sym (ap (row_in (set xs free s)) same) ∙ q.2)))
     back m q (inr other) = ((q.0, (let same = length-set xs free s in let within = q.1 in omega arith), ap row_of_slot (sym (get_or-set_other xs free m s _ other)) ∙ q.2), other)
+
+-- the place that `put` gives
+place-is : (variables : List Heads) (n : ℕ) (r : Row) (next : NodeNo) (old new : Heads) → r.var.0 < length variables → old ≡ heads_of variables r.var.0
+    → next.0 ≡ head_at old.heads (bucket_of r (width old)) → bucket_of r (width old) < width old → new.heads ≡ with_first old.heads r n → new.nodes ≡ old.nodes + 1
+    → IsPlace variables n r next new
+place-is variables n r next old new known is first within heads nodes = record {
+  known = known;
+  first = subst (λ h. next.0 ≡ head_at h.heads (bucket_of r (width h))) is first;
+  within = subst (λ h. bucket_of r (width h) < width h) is within;
+  heads_are = subst (λ h. new.heads ≡ with_first h.heads r n) is heads;
+  nodes_are = subst (λ h. new.nodes ≡ h.nodes + 1) is nodes;
+}
+
+pub hang-same : (variables : List Heads) (v : ℕ) (new : Heads) → v < length variables → new ≡ heads_of (set variables v new) v
+hang-same variables v new known = sym (get_or-set_same variables v new _ known)
+
+pub hang-place : (variables : List Heads) (n : ℕ) (r : Row) (next : NodeNo) (x new : Heads) → r.var.0 < length variables
+    → next.0 ≡ head_at (get_or variables r.var.0 x).heads (bucket_of r (width (get_or variables r.var.0 x)))
+    → bucket_of r (width (get_or variables r.var.0 x)) < width (get_or variables r.var.0 x)
+    → new.heads ≡ with_first (get_or variables r.var.0 x).heads r n → new.nodes ≡ (get_or variables r.var.0 x).nodes + 1
+    → IsPlace variables n r next (heads_of (set variables r.var.0 new) r.var.0)
+hang-place variables n r next x new known first within heads nodes =
+    subst (IsPlace variables n r next) (hang-same variables r.var.0 new known)
+    (place-is variables n r next (get_or variables r.var.0 x) new known (get_or_default variables r.var.0 _ _ known) first within heads nodes)

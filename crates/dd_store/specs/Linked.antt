@@ -1,5 +1,5 @@
 -- The slots of a table and the chains through them, and what is always true of both.
-use Rattle.std.specs.Prelude.{◌≡◌, ◌≢◌, ℕ, ◌+◌, ◌<◌, ◌≤◌, Bool, false, List, [], ◌∷◌, length, map, set, slice_index_or, Option, Some, None}
+use Rattle.std.specs.Prelude.{◌≡◌, ◌≢◌, ℕ, ◌+◌, ◌<◌, ◌≤◌, Bool, false, if◌then◌else◌, List, [], ◌∷◌, length, map, set, slice_index_or, Option, Some, None}
 use Rattle.dd_store.specs.declared.row.Row.{Row}
 use Rattle.dd_store.specs.declared.row.NodeNo.{NodeNo}
 use Rattle.dd_store.specs.declared.slots.slot.Slot.{Slot}
@@ -7,7 +7,7 @@ use Rattle.dd_store.specs.declared.slots.slot.Slot.TheVariants.{Free, Node}
 use Rattle.dd_store.specs.Limits.{most_budget}
 use Rattle.dd_store.specs.Table.{rows_in}
 use Rattle.dd_store.specs.Slots.{rows_testing}
-use Rattle.dd_store.specs.Chains.{Heads, IsChainOf, AreChained, head_at, bucket_of}
+use Rattle.dd_store.specs.Chains.{Heads, IsChainOf, AreChained, head_at, bucket_of, width}
 
 -- the row of the node in a slot
 abbrev pub row_of_slot : Slot → Option Row
@@ -90,3 +90,26 @@ TestsAnother v (Some r) = r.var.0 ≢ v
 -- no node but those of the variable changes its chain
 abbrev pub KeepsOthers : List Slot → List Slot → ℕ → Type 0
 KeepsOthers old new v = (n : ℕ) → TestsAnother v (row_in old n) → next_in new n ≡ next_in old n
+
+-- the row of a slot whose node is marked
+abbrev pub kept_row : Slot → Option Row
+kept_row s = if is_marked_slot s then row_of_slot s else None
+
+-- the marked nodes are still there, and no mark is
+pub record SweepsSlots (old new : List Slot) : Type 0 where
+  pub rows : (n : ℕ) → row_in new n ≡ kept_row (slot_at old n)
+  pub marks : (n : ℕ) → is_marked_slot (slot_at new n) ≡ false
+  pub size : length new ≡ length old
+
+-- all chains of a variable are empty, and no node is counted
+pub record AreEmpty (h : Heads) : Type 0 where
+  pub heads : (b : ℕ) → b < width h → head_at h.heads b ≡ 0
+  pub nodes : h.nodes ≡ 0
+
+-- what comes next of the node n with this row in the chain that it is first in, and the heads after that
+pub record IsPlace (variables : List Heads) (n : ℕ) (r : Row) (next : NodeNo) (heads : Heads) : Type 0 where
+  pub known : r.var.0 < length variables
+  pub first : next.0 ≡ head_at (heads_of variables r.var.0).heads (bucket_of r (width (heads_of variables r.var.0)))
+  pub within : bucket_of r (width (heads_of variables r.var.0)) < width (heads_of variables r.var.0)
+  pub heads_are : heads.heads ≡ with_first (heads_of variables r.var.0).heads r n
+  pub nodes_are : heads.nodes ≡ (heads_of variables r.var.0).nodes + 1

@@ -7,6 +7,7 @@ mod chains;
 mod find;
 mod moves;
 mod slot;
+mod sweep;
 
 use crate::refusal::OutOfMemory;
 use crate::row::{NodeNo, Row, Var};

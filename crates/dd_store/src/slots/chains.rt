@@ -2,7 +2,7 @@
 ghost use Rattle.std.specs.Prelude.{◌≡◌, ℕ, ◌<◌, ◌≤◌, ◌+◌, ◌*◌, ◌^◌, [], ◌∷◌, length, set, replicate, IfOk, IfSome, IfNone};
 ghost use Rattle.dd_store.specs.Limits.{most_budget};
 ghost use Rattle.dd_store.specs.Chains.{head_at, bucket_of, AreChained};
-ghost use Rattle.dd_store.specs.Linked.{row_in, next_in, KeepsSlots, KeepsOthers};
+ghost use Rattle.dd_store.specs.Linked.{row_in, next_in, KeepsSlots, KeepsOthers, IsPlace, heads_of};
 
 use crate::refusal::OutOfMemory;
 use crate::row::{NodeNo, Row, Var};
@@ -123,6 +123,16 @@ pub(crate) fn put_first(heads: &mut [NodeNo], node: NodeNo, row: &Row) -> NodeNo
     let first = heads[bucket];
     heads[bucket] = node;
     first
+}
+
+/// Puts a node first in its chain among those of all variables, and answers the one that was first.
+pub(crate) fn hang(variables: &mut [Chains], node: NodeNo, row: &Row) -> NodeNo
+    requires known { row.now.var.0 < length variables.old }
+    requires room { (heads_of variables.old row.now.var.0).nodes < most_budget }
+    ensures place { IsPlace variables.old node.0 row.now result (heads_of variables.new row.now.var.0) }
+    ensures others { variables.new ≡ set variables.old row.now.var.0 (heads_of variables.new row.now.var.0) }
+{
+    variables[row.var.0 as usize].put(node, row)
 }
 
 /// Twice as many heads, with the nodes in the chains of these; nothing where memory is wanting.

@@ -24,7 +24,7 @@ pub(crate) enum Slot {
 const _: () = prove!(size_of::<Slot>() <= 20);
 
 impl Slot {
-    ghost use Rattle.dd_store.specs.Linked.{row_of_slot, next_of_slot, is_marked_slot};
+    ghost use Rattle.dd_store.specs.Linked.{row_of_slot, next_of_slot, is_marked_slot, kept_row};
 
     /// The row of the node.
     pub(crate) fn row(self) -> Option<Row>
@@ -44,6 +44,13 @@ impl Slot {
             Slot::Free { .. } => false,
             Slot::Node { row: own, .. } => own == *row,
         }
+    }
+
+    /// The row of a node that is marked.
+    pub(crate) fn kept(self) -> Option<Row>
+        ensures { result ≡ kept_row self }
+    {
+        if self.is_marked() { self.row() } else { None }
     }
 
     /// The next number of the chain.
