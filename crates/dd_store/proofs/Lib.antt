@@ -16,6 +16,7 @@ pub mod RowCounts
 pub mod LinkLemmas
 pub mod PutLemmas
 pub mod SweepLemmas
+pub mod NodesLemmas
 pub mod Computed
 pub mod SizeLemmas
 pub mod AlikeLemmas

@@ -35,6 +35,11 @@ each-below slots free variables nodes v linked known =
     let less = testing-le v (rows_of slots) in
     omega arith
 
+-- a variable has at most as many nodes as there are
+pub each-le : (slots : List Slot) (free : ℕ) (variables : List Heads) (nodes v : ℕ) → AreLinked slots free variables nodes → v < length variables
+    → (heads_of variables v).nodes ≤ rows_in (rows_of slots)
+each-le slots free variables nodes v linked known = let is = linked.each_count v known in let less = testing-le v (rows_of slots) in omega arith
+
 -- one number more is in its chain
 pub relink-node : (slots : List Slot) (free nodes : ℕ) (variables : List Heads) (n : ℕ) (r : Row) (next : NodeNo) (heads : Heads)
     → AreLinked (take n slots) free variables nodes → n < length slots → length slots ≤ most_budget + 2 → IsPlace variables n r next heads

@@ -4,7 +4,7 @@ ghost use Rattle.std.specs.Prelude.{◌≡◌, ℕ, ◌≤◌, ◌<◌, [], IfOk
 mod handles;
 mod node;
 mod read;
-mod room;
+pub(crate) mod room;
 mod variables;
 
 use crate::refusal::OutOfMemory;
