@@ -5,7 +5,7 @@ mod collect;
 mod handles;
 mod node;
 mod read;
-mod room;
+pub(crate) mod room;
 mod variables;
 
 use crate::refusal::OutOfMemory;
