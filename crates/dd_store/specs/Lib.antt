@@ -3,6 +3,10 @@ pub mod Order
 pub mod Follow
 pub mod Reached
 pub mod Table
+pub mod Slots
+pub mod Chains
+pub mod Linked
+pub mod Marks
 pub mod Handles
 pub mod Changes
 pub mod Kept
@@ -10,3 +14,4 @@ pub mod Law
 pub mod Size
 pub mod SizeLaws
 pub mod Short
+pub mod Exhausted

@@ -36,8 +36,10 @@ impl Store {
         }
         let var = Var(count);
         self.order.reserve(1)?;
-        self.levels.push(count)?;
+        self.levels.reserve(1)?;
+        self.slots.add_variable(alloc)?;
         push_within_capacity(&mut self.order, var);
+        push_within_capacity(&mut self.levels, count);
         Ok(var)
     }
 
