@@ -1,0 +1,9 @@
+pub mod Below
+pub mod Everywhere
+pub mod Families
+pub mod Fitting
+pub mod Limits
+pub mod Marks
+pub mod NameKeys
+pub mod Places
+pub mod Truths

@@ -1,5 +1,5 @@
 -- What a mark for each feature says of the groups and the rules: the plain check reads rows alone.
-use Rattle.std.specs.Prelude.{ℕ, ◌==◌, Bool, true, false, not, ◌&&◌, ◌||◌, nat_le, List, if◌then◌else◌, slice_get, unwrap_or, count_by}
+use Rattle.std.specs.Prelude.{ℕ, ◌==◌, Bool, false, not, ◌&&◌, ◌||◌, nat_le, List, if◌then◌else◌, slice_get, unwrap_or, count_by}
 use Rattle.std.specs.Bool.{beq}
 use Rattle.std.specs.List.{list_all}
 use Rattle.uvl_model.specs.declared.rows.FeatureNo.{FeatureNo}

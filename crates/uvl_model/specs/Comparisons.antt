@@ -1,5 +1,5 @@
 -- Rules without comparisons.
-use Rattle.std.specs.Prelude.{Bool, true, false, ◌&&◌, List, IsTrue}
+use Rattle.std.specs.Prelude.{Bool, true, false, ◌&&◌, IsTrue}
 use Rattle.std.specs.List.{list_all}
 use Rattle.uvl_model.specs.declared.rule.Rule.{Rule}
 use Rattle.uvl_model.specs.declared.rule.Rule.TheOpen.{Rule-F}

@@ -4,8 +4,8 @@ use Rattle.std.specs.Str.{bytes_eq}
 use Rattle.uvl_model.specs.declared.rows.FeatureNo.{FeatureNo}
 use Rattle.uvl_model.specs.declared.rows.FeatureRow.{FeatureRow}
 use Rattle.uvl_model.specs.Check.{is_marked}
-use Rattle.uvl_model.specs.Names.{marked}
 use Rattle.uvl_model.specs.Rows.{Rows}
+use Rattle.uvl_semantics.specs.Family.{marked}
 use Rattle.uvl_semantics.specs.Tree.{Head}
 use Rattle.uvl_semantics.specs.Values.{Heads}
 

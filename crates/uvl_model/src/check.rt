@@ -1,12 +1,22 @@
-//! The plain check of a set of features: one pass over the groups, which takes no memory.
-ghost use Rattle.std.specs.Prelude.{◌≡◌};
+//! The plain check of a set of features: one pass over the groups and the rules, which takes no memory.
+ghost use Rattle.std.specs.Prelude.{◌≡◌, ◌&&◌};
 ghost use Rattle.std.specs.List.{list_all};
-ghost use Rattle.uvl_model.specs.Check.{is_marked, marked_count, group_holds};
+ghost use Rattle.uvl_model.specs.Check.{is_marked, marked_count, group_holds, rule_holds};
+ghost use Rattle.uvl_model.specs.Spelling.{numbered};
 
-use crate::{FeatureNo, GroupRow};
+use crate::rules::rules_hold;
+use crate::{FeatureNo, GroupRow, Rule};
+
+/// Whether the root is chosen, and each group and each rule holds.
+pub(crate) fn rows_hold(groups: &[GroupRow], rules: &[Rule], chosen: &[bool]) -> bool
+    ensures { result ≡ (is_marked chosen.now (numbered 0) && list_all (group_holds chosen.now) groups.now
+        && list_all (rule_holds chosen.now) rules.now) }
+{
+    is_chosen(FeatureNo(0), chosen) && groups_hold(groups, chosen) && rules_hold(rules, chosen)
+}
 
 /// Whether each group holds.
-pub(crate) fn groups_hold(groups: &[GroupRow], chosen: &[bool]) -> bool
+fn groups_hold(groups: &[GroupRow], chosen: &[bool]) -> bool
     ensures { result ≡ list_all (group_holds chosen.now) groups.now }
 {
     groups.iter().all(|group| group_holds(group, chosen))

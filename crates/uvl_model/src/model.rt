@@ -1,8 +1,7 @@
 //! A sound feature model.
 ghost use Rattle.std.specs.Prelude.{◌≡◌, ◌<◌, ◌≤◌, ◌↔◌, ℕ, List, length, slice_get, chars, Contains, is_some, IsSome, IfSome, Some};
 
-use crate::check::{groups_hold, is_chosen};
-use crate::rules::rules_hold;
+use crate::check::rows_hold;
 use crate::{FeatureNo, FeatureRow, GroupRow, NameIndex, Rule};
 use sqlite_items::Items;
 
@@ -22,6 +21,12 @@ impl std::marker::Model for Model {
     ghost use Rattle.uvl_model.specs.Rows.{Rows};
 
     ghost Value = { Rows };
+
+    ghost use Rattle.std.specs.Coded.{codes};
+    ghost use Rattle.uvl_ast.specs.contracts.feature.Attribute as attribute;
+    ghost use Rattle.uvl_model.specs.contracts.rule.Rule as rule;
+
+    ghost coded = { Prim.hlevel (codes, attribute.the_row.coded, rule.the_row.coded) };
 
     ghost view = { λ m. record { features = m.features; groups = m.groups; rules = m.rules } };
 
@@ -110,8 +115,6 @@ impl Model {
             result ≡ (Products self.now).contains set }
         ensures sound { IsSound self.now }
     {
-        is_chosen(FeatureNo(0), chosen)
-            && groups_hold(self.groups.as_slice(), chosen)
-            && rules_hold(self.rules.as_slice(), chosen)
+        rows_hold(self.groups.as_slice(), self.rules.as_slice(), chosen)
     }
 }

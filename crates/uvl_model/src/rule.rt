@@ -27,10 +27,7 @@ pub enum Number {
     /// The number that a feature has under a key, where it is selected, and else 0.
     Attr(FeatureNo, Name),
     /// The sum of what the selected ones of `top` and all features below it have under a key.
-    Sum {
-        top: FeatureNo,
-        key: Name,
-    },
+    Sum { top: FeatureNo, key: Name },
     Plus(Boxed<Number>, Boxed<Number>),
     Minus(Boxed<Number>, Boxed<Number>),
     Times(Boxed<Number>, Boxed<Number>),
