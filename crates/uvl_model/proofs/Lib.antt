@@ -5,5 +5,7 @@ pub mod Fitting
 pub mod Limits
 pub mod Marks
 pub mod NameKeys
+pub mod Nodes
 pub mod Places
+pub mod SmallRules
 pub mod Truths

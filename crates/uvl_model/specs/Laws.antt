@@ -1,12 +1,16 @@
 -- What holds of the products and the rows of all trees.
-use Rattle.std.specs.Prelude.{◌≡◌, ℕ, Bool, List}
+use Rattle.std.specs.Prelude.{◌≡◌, ◌≤◌, ℕ, Bool, List, IsTrue}
+use Rattle.std.specs.List.{All}
+use Rattle.uvl_base.specs.Limits.{most_rule_nodes, most_right_operands}
+use Rattle.uvl_model.specs.declared.rule.Rule.{Rule}
 use Rattle.uvl_model.specs.Check.{rows_hold}
-use Rattle.uvl_model.specs.Comparisons.{HaveNoComparison}
+use Rattle.uvl_model.specs.Comparisons.{HaveNoComparison, has_no_comparison}
 use Rattle.uvl_model.specs.Constraints.{constraints_of}
 use Rattle.uvl_model.specs.Marks.{StandFor}
 use Rattle.uvl_model.specs.Names.{feature_names, chosen_names}
 use Rattle.uvl_model.specs.Products.{Products}
 use Rattle.uvl_model.specs.Rows.{Rows}
+use Rattle.uvl_model.specs.Rules.{IsRule, IsThere, features_of, nodes_of, right_operands}
 use Rattle.uvl_model.specs.Sound.{IsSound}
 use Rattle.uvl_model.specs.Spelling.{Spells}
 use Rattle.uvl_semantics.specs.Family.{IsOfSets, ProductsOf}
@@ -38,3 +42,10 @@ MarksGiveProducts =
     (rows : Rows) (marks : List Bool) (set : List (List ℕ)) → IsSound rows →
     StandFor (Products rows).names marks set →
     (Products rows).contains (chosen_names rows marks) ≡ (Products rows).contains set
+
+-- A rule without comparisons may be in a model where its features are there, its nodes are no more than a rule may have,
+-- and none stands in too many right operands.
+abbrev pub SmallRulesMayBe : Type 0
+SmallRulesMayBe =
+    (rows : Rows) (rule : Rule) → IsTrue (has_no_comparison rule) → All (IsThere rows) (features_of rule) →
+    nodes_of rule ≤ most_rule_nodes → right_operands rule ≤ most_right_operands → IsRule rows rule

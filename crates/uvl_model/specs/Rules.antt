@@ -99,6 +99,19 @@ factor_node (Number-F.Times left right) =
 abbrev pub is_linear : Number → Bool
 is_linear number = (fold-Number Factor factor_node number).is_linear
 
+-- a node of a number and those of its operands, where their number stands for each
+abbrev pub number_node : Number-F ℕ → ℕ
+number_node (Number-F.Literal millionths) = 1
+number_node (Number-F.Attr f key) = 1
+number_node (Number-F.Sum top key) = 1
+number_node (Number-F.Plus left right) = 1 + left + right
+number_node (Number-F.Minus left right) = 1 + left + right
+number_node (Number-F.Times left right) = 1 + left + right
+
+-- how many nodes a number has
+abbrev pub number_nodes_of : Number → ℕ
+number_nodes_of = fold-Number ℕ number_node
+
 -- the features whose selection a node of a rule names, where a list stands for each operand
 abbrev pub features_node : Rule-F (List FeatureNo) → List FeatureNo
 features_node (Rule-F.Feature f) = f ∷ []
@@ -126,6 +139,20 @@ numbers_node (Rule-F.Compare how left right) = left ∷ right ∷ []
 -- the numbers that a rule compares
 abbrev pub numbers_of : Rule → List Number
 numbers_of = fold-Rule (List Number) numbers_node
+
+-- a node and those of its operands, where their number stands for each; a number that is compared has its own
+abbrev pub nodes_node : Rule-F ℕ → ℕ
+nodes_node (Rule-F.Feature f) = 1
+nodes_node (Rule-F.Not operand) = 1 + operand
+nodes_node (Rule-F.And left right) = 1 + left + right
+nodes_node (Rule-F.Or left right) = 1 + left + right
+nodes_node (Rule-F.Implies left right) = 1 + left + right
+nodes_node (Rule-F.Iff left right) = 1 + left + right
+nodes_node (Rule-F.Compare how left right) = 1 + number_nodes_of left + number_nodes_of right
+
+-- how many nodes a rule has: literals, references, sums, `!` and operators are one each
+abbrev pub nodes_of : Rule → ℕ
+nodes_of = fold-Rule ℕ nodes_node
 
 -- how many right operands of `&`, `|`, `=>` and `<=>` a node stands in at most, where this is told of each operand
 abbrev pub operands_node : Rule-F ℕ → ℕ

@@ -1,5 +1,5 @@
 //! Laws of the definitions. The functions do nothing: what they ensure is the law.
-ghost use Rattle.uvl_model.specs.Laws.{RowsGiveProducts, RowsGiveNames, RowsCheckProducts, MarksGiveProducts, ProductsAreSets};
+ghost use Rattle.uvl_model.specs.Laws.{RowsGiveProducts, RowsGiveNames, RowsCheckProducts, MarksGiveProducts, ProductsAreSets, SmallRulesMayBe};
 
 /// The products of a model's rows are those of each tree that the rows spell, with what their rules
 /// say.
@@ -25,4 +25,10 @@ pub fn products_are_sets()
 /// Marks that stand for a set are a product where the set is one.
 pub fn marks_give_products()
     ensures { MarksGiveProducts }
+{}
+
+/// A rule without comparisons that is within the limits on rules may be in a model that has its
+/// features.
+pub fn small_rules_may_be()
+    ensures { SmallRulesMayBe }
 {}

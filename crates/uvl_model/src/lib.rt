@@ -12,7 +12,7 @@ mod rules;
 
 pub use laws::{
     marks_give_products, products_are_sets, rows_check_products, rows_give_names,
-    rows_give_products,
+    rows_give_products, small_rules_may_be,
 };
 pub use model::Model;
 pub use names::NameIndex;
