@@ -1,10 +1,10 @@
 -- What a feature model keeps in its type.
-use Rattle.std.specs.Prelude.{◌≡◌, ℕ, ◌+◌, ◌-◌, ◌≤◌, ◌⊎◌, ⊤, List, [], ◌∷◌, Contains, IsTrue}
-use Rattle.std.specs.List.{All, flat_map}
+use Rattle.std.specs.Prelude.{◌≡◌, ℕ, ◌+◌, ◌-◌, ◌≤◌, ◌⊎◌, ⊤, List, [], ◌∷◌, Contains}
+use Rattle.std.specs.List.{All}
 use Rattle.uvl_ast.specs.declared.feature.Attribute.{Attribute}
 use Rattle.uvl_ast.specs.Keys.{key_lists}
 use Rattle.uvl_ast.specs.Nesting.{nesting_of_attribute}
-use Rattle.uvl_ast.specs.Texts.{texts_in, is_quotable}
+use Rattle.uvl_ast.specs.Texts.{AreQuotable, texts_of}
 use Rattle.uvl_base.specs.Limits.{most_features, most_depth, most_nesting}
 use Rattle.uvl_model.specs.Rows.{Rows}
 use Rattle.uvl_model.specs.Rules.{IsRule}
@@ -50,7 +50,7 @@ pub record IsWithinLimits (tree : Tree) : Type 0 where
 -- braces and brackets nest no deeper than the limit, the feature's own braces counted.
 pub record AreAttributes (attributes : List Attribute) : Type 0 where
   pub keys : All AreDistinct (key_lists attributes)
-  pub texts : All (λ text. IsTrue (is_quotable text)) (flat_map texts_in attributes)
+  pub texts : All (λ attribute. AreQuotable (texts_of attribute)) attributes
   pub nested : All (λ attribute. nesting_of_attribute attribute ≤ most_nesting - 1) attributes
 
 -- the rows spell such a tree, and each feature has such attributes and each rule is one that a model may have
