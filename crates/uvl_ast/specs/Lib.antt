@@ -4,3 +4,5 @@ pub mod Nesting
 pub mod Rules
 pub mod Nodes
 pub mod Operands
+pub mod Keys
+pub mod Texts

@@ -7,3 +7,4 @@ pub mod Firsts
 pub mod Shaped
 pub mod Parts
 pub mod WholeFiles
+pub mod Quoted

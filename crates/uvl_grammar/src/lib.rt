@@ -6,4 +6,4 @@ mod entry;
 mod law;
 
 pub use entry::Entry;
-pub use law::every_token_list_spells_one_file;
+pub use law::{every_token_list_spells_one_file, spelled_texts_are_quotable};

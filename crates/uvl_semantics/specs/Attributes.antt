@@ -26,6 +26,10 @@ abbrev pub attributes_of : List ℕ → List Head → List Attribute
 attributes_of name [] = []
 attributes_of name (head ∷ heads) = if bytes_eq head.name name then head.attributes else attributes_of name heads
 
+-- the number that the first of the heads with this name has under a key
+abbrev pub number_among : List Head → (feature key : List ℕ) → Option ℤ
+number_among heads feature key = number_of_key key (attributes_of feature heads)
+
 -- the number that a feature of the tree has under a key
 abbrev pub number_in : Tree → (feature key : List ℕ) → Option ℤ
-number_in tree feature key = number_of_key key (attributes_of feature (heads_of tree))
+number_in tree feature key = number_among (heads_of tree) feature key

@@ -1,6 +1,6 @@
 -- Families of sets of features, and whether some set of a family passes a test. A set is a list of names, of which
 -- only membership counts.
-use Rattle.std.specs.Prelude.{◌≡◌, ℕ, Bool, true, not, ◌&&◌, List, [], ◌∷◌, ◌++◌, map}
+use Rattle.std.specs.Prelude.{◌≡◌, ℕ, Bool, true, not, ◌&&◌, List, [], ◌∷◌, ◌++◌, map, if◌then◌else◌}
 use Rattle.std.specs.List.{list_any, list_all}
 use Rattle.uvl_semantics.specs.Constraint.{Constraint}
 use Rattle.uvl_semantics.specs.Holding.{holds}
@@ -30,6 +30,12 @@ IsTestOfSets test =
 pub record IsOfSets (family : Family) : Type 0 where
   pub by_members : IsTestOfSets family.contains
   pub named : (set : List (List ℕ)) → family.contains set ≡ true → list_all (has family.names) set ≡ true
+
+-- those of the items whose mark is true, the marks standing beside the items
+abbrev pub marked : {A : Type 0} → List A → List Bool → List A
+marked [] marks = []
+marked (item ∷ items) [] = []
+marked (item ∷ items) (mark ∷ marks) = if mark then item ∷ marked items marks else marked items marks
 
 -- all sublists of the names, each in their order
 abbrev pub sublists_of : List (List ℕ) → List (List (List ℕ))

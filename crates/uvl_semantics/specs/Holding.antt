@@ -5,7 +5,7 @@ use Rattle.uvl_semantics.specs.Constraint.{Constraint, Comparison, equal, differ
 use Rattle.uvl_semantics.specs.Constraint.{selected, negation, conjunction, disjunction, implication, equivalence, comparison}
 use Rattle.uvl_semantics.specs.Product.{has}
 use Rattle.uvl_semantics.specs.Tree.{Tree}
-use Rattle.uvl_semantics.specs.Values.{value}
+use Rattle.uvl_semantics.specs.Values.{Heads, heads_in, value_by}
 
 -- whether two numbers compare so
 abbrev pub compares : Comparison → ℤ → ℤ → Bool
@@ -16,12 +16,16 @@ compares at_most m n = int_le m n
 compares greater m n = int_lt n m
 compares at_least m n = int_le n m
 
--- a feature holds where it is selected, operators are read as usual, and a comparison compares two numbers
+-- A feature holds where it is selected, operators are read as usual, and a comparison compares two numbers.
+abbrev pub holds_by : Heads → Constraint → List (List ℕ) → Bool
+holds_by heads (selected name) set = has set name
+holds_by heads (negation operand) set = not (holds_by heads operand set)
+holds_by heads (conjunction left right) set = holds_by heads left set && holds_by heads right set
+holds_by heads (disjunction left right) set = holds_by heads left set || holds_by heads right set
+holds_by heads (implication left right) set = not (holds_by heads left set) || holds_by heads right set
+holds_by heads (equivalence left right) set = beq (holds_by heads left set) (holds_by heads right set)
+holds_by heads (comparison how left right) set = compares how (value_by heads left set) (value_by heads right set)
+
+-- whether a constraint holds in a set of features of a tree
 abbrev pub holds : Tree → Constraint → List (List ℕ) → Bool
-holds tree (selected name) set = has set name
-holds tree (negation operand) set = not (holds tree operand set)
-holds tree (conjunction left right) set = holds tree left set && holds tree right set
-holds tree (disjunction left right) set = holds tree left set || holds tree right set
-holds tree (implication left right) set = not (holds tree left set) || holds tree right set
-holds tree (equivalence left right) set = beq (holds tree left set) (holds tree right set)
-holds tree (comparison how left right) set = compares how (value tree left set) (value tree right set)
+holds tree = holds_by (heads_in tree)

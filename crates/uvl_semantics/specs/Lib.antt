@@ -5,4 +5,5 @@ pub mod Values
 pub mod Holding
 pub mod Product
 pub mod Family
+pub mod Laws
 pub mod Prefix

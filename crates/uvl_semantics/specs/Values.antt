@@ -1,7 +1,7 @@
 -- The numbers of a set of features. Numbers are in millionths, and a product of two in units of 10^-12; both are exact.
 use Rattle.std.specs.Prelude.{ℕ, ℤ, pos, ◌+ℤ◌, ◌-ℤ◌, ◌*ℤ◌, List, [], ◌∷◌, ◌++◌, unwrap_or, if◌then◌else◌}
 use Rattle.std.specs.Str.{bytes_eq}
-use Rattle.uvl_semantics.specs.Attributes.{number_of_key, number_in}
+use Rattle.uvl_semantics.specs.Attributes.{number_of_key, number_among}
 use Rattle.uvl_semantics.specs.Constraint.{Quantity, literal, attribute, total, plus, minus, times}
 use Rattle.uvl_semantics.specs.Product.{has}
 use Rattle.uvl_semantics.specs.Tree.{Tree, Groups, Members, Head, feature, no_groups, group, no_members, member, heads_of}
@@ -30,19 +30,37 @@ total_of key (head ∷ heads) set =
     (if has set head.name then unwrap_or (number_of_key key head.attributes) (pos 0) else pos 0)
     +ℤ total_of key heads set
 
+-- What numbers are read from: the heads of all features, and those from the feature with a name downwards.
+pub record Heads : Type 0 where
+  pub all : List Head
+  pub below : List ℕ → List Head
+
+-- those of a tree
+abbrev pub heads_in : Tree → Heads
+heads_in tree = record { all = heads_of tree; below = λ top. heads_below top tree }
+
 -- What a number without a product is, in millionths: an attribute of a feature that isn't selected is 0. (A product is
--- read by `value` alone.)
-abbrev pub plain : Tree → Quantity → List (List ℕ) → ℤ
-plain tree (literal millionths) set = millionths
-plain tree (attribute name key) set = if has set name then unwrap_or (number_in tree name key) (pos 0) else pos 0
-plain tree (total top key) set = total_of key (heads_below top tree) set
-plain tree (plus left right) set = plain tree left set +ℤ plain tree right set
-plain tree (minus left right) set = plain tree left set -ℤ plain tree right set
-plain tree (times left right) set = pos 0
+-- read by `value_by` alone.)
+abbrev pub plain_by : Heads → Quantity → List (List ℕ) → ℤ
+plain_by heads (literal millionths) set = millionths
+plain_by heads (attribute name key) set =
+    if has set name then unwrap_or (number_among heads.all name key) (pos 0) else pos 0
+plain_by heads (total top key) set = total_of key (heads.below top) set
+plain_by heads (plus left right) set = plain_by heads left set +ℤ plain_by heads right set
+plain_by heads (minus left right) set = plain_by heads left set -ℤ plain_by heads right set
+plain_by heads (times left right) set = pos 0
 
 -- What a number is, in units of 10^-12. No side of a product has a product in it.
+abbrev pub value_by : Heads → Quantity → List (List ℕ) → ℤ
+value_by heads (plus left right) set = value_by heads left set +ℤ value_by heads right set
+value_by heads (minus left right) set = value_by heads left set -ℤ value_by heads right set
+value_by heads (times left right) set = plain_by heads left set *ℤ plain_by heads right set
+value_by heads simple set = plain_by heads simple set *ℤ pos 1000000
+
+-- what a number without a product is in a tree
+abbrev pub plain : Tree → Quantity → List (List ℕ) → ℤ
+plain tree = plain_by (heads_in tree)
+
+-- what a number is in a tree
 abbrev pub value : Tree → Quantity → List (List ℕ) → ℤ
-value tree (plus left right) set = value tree left set +ℤ value tree right set
-value tree (minus left right) set = value tree left set -ℤ value tree right set
-value tree (times left right) set = plain tree left set *ℤ plain tree right set
-value tree simple set = plain tree simple set *ℤ pos 1000000
+value tree = value_by (heads_in tree)

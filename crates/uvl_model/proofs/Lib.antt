@@ -1,0 +1,11 @@
+pub mod Below
+pub mod Everywhere
+pub mod Families
+pub mod Fitting
+pub mod Limits
+pub mod Marks
+pub mod NameKeys
+pub mod Nodes
+pub mod Places
+pub mod SmallRules
+pub mod Truths

@@ -1,0 +1,13 @@
+pub mod Check
+pub mod Comparisons
+pub mod Constraints
+pub mod Heads
+pub mod Laws
+pub mod Marks
+pub mod Names
+pub mod Outcome
+pub mod Products
+pub mod Rows
+pub mod Rules
+pub mod Sound
+pub mod Spelling
