@@ -1,20 +1,19 @@
 -- A node that is added: the rows stay reduced, the values stay, and the fields stay tied to the table.
-use Rattle.std.proofs.Common.{◌≡◌, ◌≢◌, ◌⊎◌, ℕ, Bool, ◌==◌, ◌&&◌, ◌+◌, ◌<◌, ◌≤◌, true, false, cond, if◌then◌else◌, List, [], ◌∷◌, ◌++◌, length, sum, Option, Some, None, is_some, IfSome, IfNone, get_or, refl, ap, sym, ◌∙◌, inl, inr, arith, length-append}
-use Rattle.std.proofs.lemmas.Bool.{cases_lt, cases_eq, eqb-true, eq-eqb, true≢false, and_parts, and_from}
-use Rattle.std.proofs.lemmas.List.{get_or_append_left, get_or_past}
-use Rattle.std.proofs.Math.Seq.{get_or-append_seam}
-use Rattle.std.proofs.lemmas.List.Sums.{sum_by-append}
+use Rattle.std.proofs.Common.{◌≡◌, ◌≢◌, ◌⊎◌, ℕ, Bool, ◌==◌, ◌+◌, ◌<◌, ◌≤◌, true, false, if◌then◌else◌, List, [], ◌∷◌, length, sum, Option, Some, None, is_some, IfSome, get_or, refl, ap, sym, ◌∙◌, subst, inl, inr, arith}
+use Rattle.std.proofs.Math.ListN.{set, length-set}
+use Rattle.std.proofs.lemmas.Bool.{cases_eq, true≢false}
 use Rattle.dd_store.specs.declared.row.Row.{Row}
 use Rattle.dd_store.specs.declared.row.Var.{Var}
 use Rattle.dd_store.specs.declared.row.NodeNo.{NodeNo}
+use Rattle.dd_store.specs.Slots.{Nodes, AddsNode}
 use Rattle.dd_store.specs.Order.{level_in, level_of_row, IsIn}
 use Rattle.dd_store.specs.Follow.{end_of, value_in, IsThere}
-use Rattle.dd_store.specs.Table.{Table, row_of, rows_in, handles_on, value_of, IsLive, HasEnds, AreReduced, IsSound}
-use Rattle.dd_store.specs.Kept.{Index, IsKept, same_row}
+use Rattle.dd_store.specs.Table.{Table, row_of, rows_in, node_count, handles_on, value_of, IsLive, HasEnds, AreReduced, IsSound}
+use Rattle.dd_store.specs.Kept.{Index, IsKept}
 use Rattle.dd_store.specs.Changes.{AddsRow, Grows}
 use Rattle.dd_store.specs.Handles.{GainsHandle}
 use Rattle.dd_store.proofs.ChangeLemmas.{keeps-reached}
-use Rattle.dd_store.proofs.HandleLemmas.{each-gain}
+use Rattle.dd_store.proofs.HandleLemmas.{gains-handle, one_on-other}
 use Rattle.dd_store.proofs.ReadLemmas.{has-ends}
 use Rattle.dd_store.proofs.FollowLemmas.{follow-node, follow-same}
 
@@ -39,11 +38,11 @@ there-other old k n free large there same =
     true≢false (sym (there (let large' : 2 ≤ n = omega arith in large')) ∙ ap is_some (ap old same ∙ free))
 
 -- and keeps its row
-there-same : (old new : ℕ → Option Row) (k : ℕ) (r : Row) → Adds old new k r → (n : ℕ) → IsThere old n → new n ≡ old n
+pub there-same : (old new : ℕ → Option Row) (k : ℕ) (r : Row) → Adds old new k r → (n : ℕ) → IsThere old n → new n ≡ old n
 there-same old new k r adds n there = adds.others n (there-other old k n adds.free adds.no_constant there)
 
 -- and is still there
-there-still : (old new : ℕ → Option Row) (k : ℕ) (r : Row) → Adds old new k r → (n : ℕ) → IsThere old n → IsThere new n
+pub there-still : (old new : ℕ → Option Row) (k : ℕ) (r : Row) → Adds old new k r → (n : ℕ) → IsThere old n → IsThere new n
 there-still old new k r adds n there = λ large. ap is_some (there-same old new k r adds n there) ∙ there large
 
 -- a row after the addition is the new one or one from before
@@ -56,7 +55,7 @@ row-cases old new k r adds n s is =
     ]
 
 -- the rows stay reduced
-reduced-add : (order : List Var) (old new : ℕ → Option Row) (k : ℕ) (r : Row) → AreReduced order old → CanTake order old r → Adds old new k r → AreReduced order new
+pub reduced-add : (order : List Var) (old new : ℕ → Option Row) (k : ℕ) (r : Row) → AreReduced order old → CanTake order old r → Adds old new k r → AreReduced order new
 reduced-add order old new k r reduced can adds = record {
   distinct = reduced.distinct;
   no_is_constant = adds.others 0 (λ same. let large = adds.no_constant in absurd (omega arith)) ∙ reduced.no_is_constant;
@@ -90,13 +89,13 @@ reduced-add order old new k r reduced can adds = record {
     unique' m n s (inr old_m) (inr old_n) = reduced.unique m n s old_m.1 old_n.1
 
 -- every constant and node keeps its value
-value-add : (order : List Var) (old new : ℕ → Option Row) (k : ℕ) (r : Row) → AreReduced order old → Adds old new k r
+pub value-add : (order : List Var) (old new : ℕ → Option Row) (k : ℕ) (r : Row) → AreReduced order old → Adds old new k r
     → (a : ℕ → Bool) (n : ℕ) → IsThere old n → value_in order new a n ≡ value_in order old a n
 value-add order old new k r reduced adds a n there =
     ap (λ m. m == 1) (follow-same order old new a (there-same old new k r adds) (λ m s b is. reduced.ends_there m s b is) n there)
 
 -- the new node has the value of the end that the assignment takes
-value-new : (order : List Var) (old new : ℕ → Option Row) (k : ℕ) (r : Row) → AreReduced order old → CanTake order old r → Adds old new k r
+pub value-new : (order : List Var) (old new : ℕ → Option Row) (k : ℕ) (r : Row) → AreReduced order old → CanTake order old r → Adds old new k r
     → (a : ℕ → Bool) → value_in order new a k ≡ (if a r.var.0 then value_in order old a r.high.0 else value_in order old a r.low.0)
 value-new order old new k r reduced can adds a =
     let b = a r.var.0 in
@@ -108,183 +107,128 @@ value-new order old new k r reduced can adds a =
     by true = refl
     by false = refl
 
--- the table with a node more, and a live handle on it
-abbrev pub with_node : Table → Row → Table
-with_node t r = record t { slots = t.slots ++ Some r ∷ []; counts = t.counts ++ 1 ∷ [] }
+-- a slot more: the constants have slots without rows, so there are two slots more than nodes at least
+rows-within : (xs : List (Option Row)) → rows_in xs ≤ length xs
+rows-within [] = omega arith
+rows-within (None ∷ xs) = let rest = rows-within xs in omega arith
+rows-within (Some r ∷ xs) = let rest = rows-within xs in omega arith
 
--- rows are equal where their parts are
-same_row-true : (r s : Row) → same_row r s ≡ true → r ≡ s
-same_row-true r s same =
-    let parts = and_parts (r.var.0 == s.var.0) ((r.low.0 == s.low.0) && (r.high.0 == s.high.0)) same in
-    let ends = and_parts (r.low.0 == s.low.0) (r.high.0 == s.high.0) parts.1 in
-    let var = eqb-true _ _ parts.0 in
-    let low = eqb-true _ _ ends.0 in
-    let high = eqb-true _ _ ends.1 in
-    λ j. record { var = record { 0 = var j }; low = record { 0 = low j }; high = record { 0 = high j } }
+pub rows-fit : (xs : List (Option Row)) → 2 ≤ length xs → get_or xs 0 None ≡ None → get_or xs 1 None ≡ None → rows_in xs + 2 ≤ length xs
+rows-fit [] some first second = absurd (omega arith)
+rows-fit (x ∷ []) some first second = absurd (omega arith)
+rows-fit (x ∷ y ∷ xs) some first second =
+    let one : rows_in (x ∷ y ∷ xs) ≡ rows_in (y ∷ xs) = ap (λ (o : Option Row). rows_in (o ∷ y ∷ xs)) first in
+    let two : rows_in (y ∷ xs) ≡ rows_in xs = ap (λ (o : Option Row). rows_in (o ∷ xs)) second in
+    let rest = rows-within xs in
+    omega arith
 
-same_row-refl : (r : Row) → same_row r r ≡ true
-same_row-refl r = and_from _ _ (eq-eqb r.var.0 r.var.0 refl) (and_from _ _ (eq-eqb r.low.0 r.low.0 refl) (eq-eqb r.high.0 r.high.0 refl))
+-- the table with other slots and counts
+abbrev pub with_slots : Table → List (Option Row) → List ℕ → Table
+with_slots t slots counts = record t { slots = slots; counts = counts }
 
--- the look-up has the row of the new node beside those before
-abbrev pub IsFindAfter : (Row → Option NodeNo) → Row → ℕ → (Row → Option NodeNo) → Type 0
-IsFindAfter find r k find' = (q : Row) → find' q ≡ cond (same_row r q) (Some (record { 0 = k })) (find q)
+-- A node is added to a sound table that has room for it, with a live handle on it.
+module _ (t : Table) (slots : List (Option Row)) (counts : List ℕ) (k : ℕ) (r : Row) (sound : IsSound t) (can : CanTake t.order (row_of t) r)
+    (adds : Adds (row_of t) (λ n. get_or slots n None) k r) (count : rows_in slots ≡ node_count t + 1) (room : node_count t < t.budget)
+    (gains : GainsHandle t (with_slots t slots counts) k) where
+  -- the table is as sound
+  pub sound-add : IsSound (with_slots t slots counts)
+  sound-add = record {
+    reduced = record { rows = reduced-add t.order _ _ k r sound.reduced.rows can adds; live = live' };
+    numbered = sound.numbered;
+    has_numbers = sound.has_numbers;
+    few_variables = sound.few_variables;
+    within_budget = omega arith;
+    enough = sound.enough;
+    not_too_much = sound.not_too_much;
+  }
+    where
+      live' : (n : ℕ) → IsLive (with_slots t slots counts) n → IsThere (λ m. get_or slots m None) n
+      live' n is_live = elim (cases_eq n k) [
+        | inl same ↦ λ large. ap is_some (ap (λ (m : ℕ). get_or slots m None) same ∙ adds.added)
+        | inr other ↦
+            let each = gains.each n in
+            let none = one_on-other k n other in
+            there-still _ _ k r adds n (sound.reduced.live n (omega arith))
+      ]
 
--- one slot more
-rows_in-push : (xs : List (Option Row)) (r : Row) → rows_in (xs ++ Some r ∷ []) ≡ rows_in xs + 1
-rows_in-push [] r = refl
-rows_in-push (None ∷ xs) r = rows_in-push xs r
-rows_in-push (Some s ∷ xs) r = let rest = rows_in-push xs r in omega arith
+  -- what is there keeps its row and its value
+  pub grows-add : Grows t (with_slots t slots counts) 1
+  grows-add = record {
+    keeps = record {
+      values = λ n a before after. value-add t.order (row_of t) _ k r sound.reduced.rows adds a n (sound.reduced.live n before);
+      kept_alive = λ n before after. keeps-reached t (λ m. get_or slots m None) sound (there-same _ _ k r adds) n before;
+      order = refl;
+      budget = refl;
+      sound = sound-add;
+    };
+    count = omega arith;
+    rows = λ _ n s is. there-same _ _ k r adds n (λ large. ap is_some is) ∙ is;
+    none = λ no n. absurd (omega arith);
+  }
 
-get_or-push_other : {X : Type 0} (xs : List X) (x d : X) (n : ℕ) → n ≢ length xs → get_or (xs ++ x ∷ []) n d ≡ get_or xs n d
-get_or-push_other xs x d n other =
-    elim (cases_lt n (length xs)) [
-      | inl inside ↦ get_or_append_left xs (x ∷ []) d n inside
-      | inr past ↦
-          let more = length-append xs (x ∷ []) in
-          get_or_past (xs ++ x ∷ []) n d (omega arith) ∙ sym (get_or_past xs n d past)
-    ]
+  -- the new node is one more
+  pub adds-row : AddsRow t (with_slots t slots counts) k r
+  adds-row = record { free = adds.free; no_constant = adds.no_constant; added = adds.added; others = adds.others; count = count }
 
--- the slots after a push have one row more
-pub adds-slot : (t : Table) (i : Index) (r : Row) → IsKept t i
-    → Adds (row_of t) (row_of (with_node t r)) (i.nodes + 2) r
-adds-slot t i r kept =
-    let filled = kept.filled in
-    record {
-      free = get_or_past t.slots (i.nodes + 2) None (omega arith);
-      no_constant = omega arith;
-      added = ap (λ k. get_or (t.slots ++ Some r ∷ []) k None) (sym filled) ∙ get_or-append_seam t.slots (Some r) [] None;
-      others = λ n other. get_or-push_other t.slots (Some r) None n (λ same. other (same ∙ filled));
-    }
+  -- and has the value that was asked for
+  pub value-added : (a : ℕ → Bool) → value_of (with_slots t slots counts) k a ≡ (if a r.var.0 then value_of t r.high.0 a else value_of t r.low.0 a)
+  value-added a = value-new t.order (row_of t) (λ n. get_or slots n None) k r sound.reduced.rows can adds a
 
--- the counts of the other numbers stay
-count-other : (t : Table) (i : Index) (r : Row) → IsKept t i → (m : ℕ) → m ≢ i.nodes + 2 → handles_on (with_node t r) m ≡ handles_on t m
-count-other t i r kept m other = get_or-push_other t.counts 1 0 m (λ same. other (same ∙ kept.counted ∙ kept.filled))
+-- what an added node makes of a table and of what is kept beside it
+pub record Added (t u : Table) (i : Index) (k : ℕ) (r : Row) : Type 0 where
+  pub kept : IsKept u i
+  pub row : AddsRow t u k r
+  pub grows : Grows t u 1
+  pub gains : GainsHandle t u k
+  pub value : (a : ℕ → Bool) → value_of u k a ≡ (if a r.var.0 then value_of t r.high.0 a else value_of t r.low.0 a)
 
--- the handle on the new node is the only new one
-pub gains-slot : (t : Table) (i : Index) (r : Row) → IsKept t i → GainsHandle t (with_node t r) (i.nodes + 2)
-gains-slot t i r kept =
-    let at : i.nodes + 2 ≡ length t.counts = sym (kept.counted ∙ kept.filled) in
-    let before : get_or t.counts (i.nodes + 2) 0 ≡ 0 = get_or_past t.counts (i.nodes + 2) 0 (omega arith) in
-    let after : get_or (t.counts ++ 1 ∷ []) (i.nodes + 2) 0 ≡ 1 = ap (λ k. get_or (t.counts ++ 1 ∷ []) k 0) at ∙ get_or-append_seam t.counts 1 [] 0 in
-    let total' : sum (t.counts ++ 1 ∷ []) ≡ sum t.counts + 1 = sum_by-append (λ x. x) t.counts (1 ∷ []) in
-    let gained' : handles_on (with_node t r) (i.nodes + 2) ≡ handles_on t (i.nodes + 2) + 1 = omega arith in
-    record {
-      gained = gained';
-      each = each-gain (handles_on t) (handles_on (with_node t r)) (i.nodes + 2) gained' (count-other t i r kept);
-      total = total';
-    }
+-- What is kept beside the table when the slots have a node more and the counts a handle on it. `counts` are those with
+-- a count for each slot, and `x` is the one of the new node before.
+module _ (t : Table) (i : Index) (old new : Nodes) (counts : List ℕ) (k x : ℕ) (r : Row) (kept : IsKept t i) (can : CanTake t.order (row_of t) r)
+    (room : node_count t < t.budget) (slots_is : old.rows ≡ t.slots) (marks_is : old.marks ≡ i.marks) (variables_is : old.variables ≡ i.variables)
+    (adds : AddsNode old new k r) (size : length counts ≡ length new.rows) (same : (n : ℕ) → get_or counts n 0 ≡ handles_on t n)
+    (total : sum counts ≡ sum t.counts) (read : x ≡ get_or counts k x) where
+  adds' : Adds (row_of t) (λ n. get_or new.rows n None) k r
+  adds' =
+      subst (λ (rs : List (Option Row)). Adds (λ n. get_or rs n None) (λ n. get_or new.rows n None) k r) slots_is
+      (record { free = adds.free; no_constant = adds.no_constant; added = adds.added; others = adds.others })
 
--- the table is as sound
-pub sound-with_node : (t : Table) (i : Index) (r : Row) → IsKept t i → CanTake t.order (row_of t) r
-    → i.nodes ≢ t.budget → IsSound (with_node t r)
-sound-with_node t i r kept can room = record {
-  reduced = record { rows = reduced-add t.order _ _ _ r kept.sound.reduced.rows can adds; live = live' };
-  numbered = kept.sound.numbered;
-  has_numbers = kept.sound.has_numbers;
-  few_variables = kept.sound.few_variables;
-  within_budget = let more = rows_in-push t.slots r in let most = kept.sound.within_budget in let is = kept.nodes_is in omega arith;
-  enough = kept.sound.enough;
-  not_too_much = kept.sound.not_too_much;
-}
-  where
-    adds : Adds (row_of t) (row_of (with_node t r)) (i.nodes + 2) r
-    adds = adds-slot t i r kept
+  count' : rows_in new.rows ≡ node_count t + 1
+  count' = adds.count ∙ ap (λ (rs : List (Option Row)). rows_in rs + 1) slots_is
 
-    live' : (n : ℕ) → IsLive (with_node t r) n → IsThere (row_of (with_node t r)) n
-    live' n is_live = elim (cases_eq n (i.nodes + 2)) [
-      | inl same ↦ λ large. ap is_some (ap (row_of (with_node t r)) same ∙ adds.added)
-      | inr other ↦
-          let before : handles_on (with_node t r) n ≡ handles_on t n = count-other t i r kept n other in
-          there-still _ _ _ r adds n (kept.sound.reduced.live n (omega arith))
-    ]
+  gains' : GainsHandle t (with_slots t new.rows (set counts k (x + 1))) k
+  gains' =
+      let inside = adds.within in
+      let gains = gains-handle (with_slots t new.rows counts) k x (omega arith) read in
+      record {
+        gained = gains.gained ∙ ap (λ (n : ℕ). n + 1) (same k);
+        each = λ n. let here = same n in let each = gains.each n in omega arith;
+        total = let more = gains.total in omega arith;
+      }
 
--- and its fields are tied to it
-pub kept-with_node : (t : Table) (i : Index) (find' : Row → Option NodeNo) (r : Row) → IsKept t i → CanTake t.order (row_of t) r
-    → i.nodes ≢ t.budget → IsFindAfter i.find r (i.nodes + 2) find' → IsKept (with_node t r) (record { find = find'; live = i.live + 1; nodes = i.nodes + 1; levels = i.levels })
-kept-with_node t i find' r kept can room after = record {
-  sound = sound-with_node t i r kept can room;
-  finds = finds';
-  found = found';
-  filled = let filled = kept.filled in length-append t.slots (Some r ∷ []) ∙ omega arith;
-  counted = let counted = kept.counted in length-append t.counts (1 ∷ []) ∙ ap (λ k. k + 1) counted ∙ sym (length-append t.slots (Some r ∷ []));
-  live_is = (gains-slot t i r kept).total ∙ ap (λ k. k + 1) kept.live_is;
-  nodes_is = rows_in-push t.slots r ∙ ap (λ k. k + 1) kept.nodes_is;
-  leveled = kept.leveled;
-  level_is = kept.level_is;
-}
-  where
-    adds : Adds (row_of t) (row_of (with_node t r)) (i.nodes + 2) r
-    adds = adds-slot t i r kept
+  kept' : IsKept (with_slots t new.rows (set counts k (x + 1))) (record { marks = new.marks; variables = new.variables; live = i.live + 1; levels = i.levels })
+  kept' = record {
+    sound = sound-add t new.rows (set counts k (x + 1)) k r kept.sound can adds' count' room gains';
+    constants = let size' = adds.size in let before = ap length slots_is in let constants = kept.constants in omega arith;
+    counted = length-set counts k _ ∙ size;
+    known = adds.variables ∙ variables_is ∙ kept.known;
+    unmarked = λ n. adds.marks n ∙ ap (λ (ms : List Bool). get_or ms n false) marks_is ∙ kept.unmarked n;
+    live_is = let more = gains'.total in let is = kept.live_is in omega arith;
+    leveled = kept.leveled;
+    level_is = kept.level_is;
+  }
 
-    finds' : (q : Row) (k : NodeNo) → row_of (with_node t r) k.0 ≡ Some q → find' q ≡ Some k
-    finds' q k is = after q ∙ elim (row-cases _ _ _ r adds k.0 q is) [
-      | inl new' ↦
-          let yes' : same_row r q ≡ true = rw new'.1 (same_row-refl r) in
-          let number : k ≡ record { 0 = i.nodes + 2 } = λ j. record { 0 = new'.0 j } in
-          rw yes' (ap Some (sym number))
-      | inr old' ↦ by (same_row r q) refl old'.1
-    ]
-      where
-        by : (b : Bool) → same_row r q ≡ b → row_of t k.0 ≡ Some q → cond b (Some (record { 0 = i.nodes + 2 })) (i.find q) ≡ Some k
-        by true e old' = absurd (can.absent k.0 (old' ∙ ap Some (sym (same_row-true r q e))))
-        by false e old' = kept.finds q k old'
-
-    found' : (q : Row) (k : NodeNo) → find' q ≡ Some k → row_of (with_node t r) k.0 ≡ Some q
-    found' q k is = by (same_row r q) refl (sym (after q) ∙ is)
-      where
-        by : (b : Bool) → same_row r q ≡ b → cond b (Some (record { 0 = i.nodes + 2 })) (i.find q) ≡ Some k → row_of (with_node t r) k.0 ≡ Some q
-        by true e is' =
-            let number : i.nodes + 2 ≡ k.0 = cc in
-            ap (row_of (with_node t r)) (sym number) ∙ adds.added ∙ ap Some (same_row-true r q e)
-        by false e is' =
-            let old' : row_of t k.0 ≡ Some q = kept.found q k is' in
-            let other : k.0 ≢ i.nodes + 2 = λ same. true≢false (sym (ap is_some (sym (ap (row_of t) same ∙ adds.free) ∙ old'))) in
-            adds.others k.0 other ∙ old'
+  pub added : Added t (with_slots t new.rows (set counts k (x + 1))) (record { marks = new.marks; variables = new.variables; live = i.live + 1; levels = i.levels }) k r
+  added = record {
+    kept = kept';
+    row = adds-row t new.rows (set counts k (x + 1)) k r kept.sound can adds' count' room gains';
+    grows = grows-add t new.rows (set counts k (x + 1)) k r kept.sound can adds' count' room gains';
+    gains = gains';
+    value = value-added t new.rows (set counts k (x + 1)) k r kept.sound can adds' count' room gains';
+  }
 
 -- what the look-up finds is the node of the row
-pub find-found : (t : Table) (i : Index) (r : Row) (o : Option NodeNo) → IsKept t i → o ≡ i.find r
+pub find-found : (t : Table) (r : Row) (o : Option NodeNo) → IsSound t → IfSome o (λ k. row_of t k.0 ≡ Some r)
     → IfSome o (λ k. HasEnds t k.0 r.var.0 r.low.0 r.high.0)
-find-found t i r None kept is = tt
-find-found t i r (Some k) kept is = has-ends t k.0 r kept.sound (kept.found r k (sym is))
-
--- and where it finds none there is no such node
-pub find-absent : (t : Table) (i : Index) (r : Row) (o : Option NodeNo) → IsKept t i → o ≡ i.find r
-    → IfNone o ((n : ℕ) → row_of t n ≢ Some r)
-find-absent t i r None kept is = λ n there. true≢false (sym (ap is_some (is ∙ kept.finds r (record { 0 = n }) there)))
-find-absent t i r (Some k) kept is = tt
-
--- the table with the node has it and is otherwise as before
-pub adds-row : (t : Table) (i : Index) (r : Row) → IsKept t i → AddsRow t (with_node t r) (i.nodes + 2) r
-adds-row t i r kept =
-    let adds = adds-slot t i r kept in
-    record {
-      free = adds.free;
-      no_constant = adds.no_constant;
-      added = adds.added;
-      others = adds.others;
-      count = rows_in-push t.slots r;
-    }
-
--- what is there keeps its row and its value
-pub grows-with_node : (t : Table) (i : Index) (r : Row) → IsKept t i → CanTake t.order (row_of t) r → i.nodes ≢ t.budget → Grows t (with_node t r) 1
-grows-with_node t i r kept can room = record {
-  keeps = record {
-    values = λ n a before after. value-add t.order (row_of t) _ (i.nodes + 2) r kept.sound.reduced.rows adds a n (kept.sound.reduced.live n before);
-    kept_alive = λ n before after. keeps-reached t (row_of (with_node t r)) kept.sound (there-same _ _ _ r adds) n before;
-    order = refl;
-    budget = refl;
-    sound = sound-with_node t i r kept can room;
-  };
-  count = let more = rows_in-push t.slots r in omega arith;
-  rows = λ _ n s is. there-same _ _ _ r adds n (λ large. ap is_some is) ∙ is;
-  none = λ no n. absurd (omega arith);
-}
-  where
-    adds : Adds (row_of t) (row_of (with_node t r)) (i.nodes + 2) r
-    adds = adds-slot t i r kept
-
--- the new node has the value that was asked for
-pub value_of-with_node : (t : Table) (i : Index) (r : Row) → IsKept t i → CanTake t.order (row_of t) r
-    → (a : ℕ → Bool) → value_of (with_node t r) (i.nodes + 2) a ≡ (if a r.var.0 then value_of t r.high.0 a else value_of t r.low.0 a)
-value_of-with_node t i r kept can a =
-    value-new t.order (row_of t) (row_of (with_node t r)) (i.nodes + 2) r kept.sound.reduced.rows can (adds-slot t i r kept) a
+find-found t r None sound is = tt
+find-found t r (Some k) sound is = has-ends t k.0 r sound is

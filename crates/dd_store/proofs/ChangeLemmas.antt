@@ -10,16 +10,16 @@ use Rattle.dd_store.specs.Table.{Table, row_of, IsLive, IsSound}
 use Rattle.dd_store.specs.Changes.{Keeps, Grows}
 
 -- the parts of a list
-All-front : {X : Type 0} (P : X → Type 0) (xs ys : List X) → All P (xs ++ ys) → All P xs
+pub All-front : {X : Type 0} (P : X → Type 0) (xs ys : List X) → All P (xs ++ ys) → All P xs
 All-front P [] ys h = All-nil P
 All-front P (x ∷ xs) ys h = All-cons P x xs (All-head P x (xs ++ ys) h) (All-front P xs ys (All-tail P x (xs ++ ys) h))
 
-All-back : {X : Type 0} (P : X → Type 0) (xs ys : List X) → All P (xs ++ ys) → All P ys
+pub All-back : {X : Type 0} (P : X → Type 0) (xs ys : List X) → All P (xs ++ ys) → All P ys
 All-back P [] ys h = h
 All-back P (x ∷ xs) ys h = All-back P xs ys (All-tail P x (xs ++ ys) h)
 
 -- where each reached number keeps its row, the same numbers are reached after
-reached-same : (vs : List Var) (old new : ℕ → Option Row) (n : ℕ) → KeepsReached vs old new n → reached vs new n ≡ reached vs old n
+pub reached-same : (vs : List Var) (old new : ℕ → Option Row) (n : ℕ) → KeepsReached vs old new n → reached vs new n ≡ reached vs old n
 reached-same [] old new n keeps = refl
 reached-same (v ∷ vs) old new n keeps =
     let P : ℕ → Type 0 = λ m. new m ≡ old m in

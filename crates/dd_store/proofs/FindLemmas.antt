@@ -1,12 +1,12 @@
 -- What is left of a chain while it is walked.
-use Rattle.std.proofs.Common.{◌≡◌, ◌≢◌, ◌⊎◌, ℕ, Bool, true, ◌+◌, ◌<◌, ◌≤◌, List, [], ◌∷◌, length, Option, Some, None, is_some, refl, ap, sym, ◌∙◌, subst, inl, inr, arith}
+use Rattle.std.proofs.Common.{◌≡◌, ◌≢◌, ◌⊎◌, ℕ, ◌+◌, ◌<◌, ◌≤◌, List, [], ◌∷◌, length, Option, Some, None, is_some, refl, ap, sym, ◌∙◌, subst, inl, inr, arith}
 use Rattle.std.proofs.lemmas.Bool.{cases_lt, true≢false}
 use Rattle.std.proofs.lemmas.List.{get_or_past}
 use Rattle.dd_store.specs.declared.row.Row.{Row}
 use Rattle.dd_store.specs.declared.row.NodeNo.{NodeNo}
 use Rattle.dd_store.specs.declared.slots.slot.Slot.{Slot}
 use Rattle.dd_store.specs.Chains.{Has, IsChain, IsChainOf, AreChained, HangsIn, bucket_of, head_at}
-use Rattle.dd_store.specs.Linked.{row_in, next_in, row_of_slot, slot_at}
+use Rattle.dd_store.specs.Linked.{row_in, next_in, row_of_slot}
 use Rattle.dd_store.proofs.ChainLemmas.{few}
 
 -- a number with a row has a slot

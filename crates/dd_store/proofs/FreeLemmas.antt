@@ -146,7 +146,7 @@ cofactors-free (w ∷ pre) vs c x free (inr rest) =
     ]
 
 -- a cofactor gives nothing but cofactors; `pre` are the variables fixed so far
-cofactors-again : (pre vs : List Var) (f c x : Function) → ((w : ℕ) → Has pre w → IsFreeOf w f) → In c (cofactors vs f) → In x (cofactors (pre ++ vs) c)
+pub cofactors-again : (pre vs : List Var) (f c x : Function) → ((w : ℕ) → Has pre w → IsFreeOf w f) → In c (cofactors vs f) → In x (cofactors (pre ++ vs) c)
     → In x (cofactors vs f)
 cofactors-again pre [] f c x free (inl is) i =
     subst (λ g. In x (cofactors [] g)) (sym is)

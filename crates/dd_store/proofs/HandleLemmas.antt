@@ -36,6 +36,8 @@ there-within t i n kept there =
     elim (cases_lt n (length t.counts)) [
       | inl inside ↦ inside
       | inr past ↦
+          let counted = kept.counted in
+          let constants = kept.constants in
           let beyond : length t.slots ≤ n = omega arith in
           let none : row_of t n ≡ None = get_or_past t.slots n None beyond in
           absurd (true≢false (sym (there (omega arith)) ∙ ap is_some none))
@@ -49,7 +51,7 @@ read-count t n x within read = read ∙ get_or_default_zero t.counts n x within
 one_on-same : (n m : ℕ) → m ≡ n → one_on n m ≡ 1
 one_on-same n m same = rw (eq-eqb m n same) refl
 
-one_on-other : (n m : ℕ) → m ≢ n → one_on n m ≡ 0
+pub one_on-other : (n m : ℕ) → m ≢ n → one_on n m ≡ 0
 one_on-other n m other = rw (ne_eqb m n other) refl
 
 -- what holds at n and elsewhere holds of each number
@@ -99,12 +101,11 @@ release-kept t i n x kept is_live read = record {
     enough = kept.sound.enough;
     not_too_much = kept.sound.not_too_much;
   };
-  finds = kept.finds;
-  found = kept.found;
-  filled = kept.filled;
+  constants = kept.constants;
   counted = length-set t.counts n _ ∙ kept.counted;
+  known = kept.known;
+  unmarked = kept.unmarked;
   live_is = let loses = (loses-handle t n x is_live read).total in omega arith;
-  nodes_is = kept.nodes_is;
   leveled = kept.leveled;
   level_is = kept.level_is;
 }

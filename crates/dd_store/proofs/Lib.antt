@@ -22,8 +22,13 @@ pub mod SizeLemmas
 pub mod AlikeLemmas
 pub mod ReachedLemmas
 pub mod FreeLemmas
+pub mod CofactorLemmas
 pub mod LastLemmas
 pub mod LevelLemmas
+pub mod StayLemmas
+pub mod MarkLemmas
+pub mod CollectLemmas
+pub mod ExhaustedLemmas
 pub mod ShortLemmas
 pub mod LevelReachedLemmas
 pub mod LevelAgainLemmas

@@ -1,11 +1,11 @@
 -- Chains while their nodes are moved to other heads.
-use Rattle.std.proofs.Common.{◌≡◌, ◌≢◌, ◌⊎◌, ℕ, ◌+◌, ◌<◌, ◌≤◌, List, [], ◌∷◌, length, Option, Some, None, IsSome, is_some, get_or, refl, ap, sym, ◌∙◌, subst, inl, inr, arith, get_or-set_other, get_or-set_same}
-use Rattle.std.proofs.Math.ListN.{set, length-set}
-use Rattle.std.proofs.lemmas.Bool.{cases_eq, cases_lt}
+use Rattle.std.proofs.Common.{◌≡◌, ◌≢◌, ◌⊎◌, ℕ, ◌+◌, ◌<◌, ◌≤◌, List, [], ◌∷◌, length, Option, Some, None, refl, ap, sym, ◌∙◌, subst, inl, inr, arith}
+use Rattle.std.proofs.Math.ListN.{length-set}
+use Rattle.std.proofs.lemmas.Bool.{cases_lt}
 use Rattle.dd_store.specs.declared.row.Row.{Row}
 use Rattle.dd_store.specs.declared.row.NodeNo.{NodeNo}
 use Rattle.dd_store.specs.declared.slots.slot.Slot.{Slot}
-use Rattle.dd_store.specs.Chains.{Has, IsChain, IsChainOf, AreChained, AreMoved, HangsIn, HangsBelow, bucket_of, head_at}
+use Rattle.dd_store.specs.Chains.{Has, IsChain, IsChainOf, AreMoved, HangsIn, HangsBelow, bucket_of, head_at}
 use Rattle.dd_store.specs.Linked.{row_in, next_in, next_of_slot, KeepsSlots, PutsFirst, with_first}
 use Rattle.dd_store.proofs.ChainLemmas.{chain-same, keeps, puts-one, few}
 use Rattle.dd_store.proofs.FindLemmas.{row-within, hangs-row}

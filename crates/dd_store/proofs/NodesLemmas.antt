@@ -1,5 +1,5 @@
 -- What contracts see of linked slots, and the steps that change no row.
-use Rattle.std.proofs.Common.{◌≡◌, ◌≢◌, ◌⊎◌, ℕ, Bool, true, false, cond, if◌then◌else◌, nat_eq, max, ◌+◌, ◌<◌, ◌≤◌, List, [], ◌∷◌, ◌++◌, length, map, Option, Some, None, IfNone, IsSome, is_some, get_or, zero, suc, refl, ap, sym, ◌∙◌, subst, inl, inr, arith, get_or-set_other, get_or-set_same, length-append}
+use Rattle.std.proofs.Common.{◌≡◌, ◌≢◌, ◌⊎◌, ℕ, Bool, true, false, cond, if◌then◌else◌, nat_eq, ◌+◌, ◌<◌, ◌≤◌, List, [], ◌∷◌, ◌++◌, length, map, Option, Some, None, IfNone, is_some, get_or, zero, suc, refl, ap, sym, ◌∙◌, subst, inl, inr, arith, get_or-set_other, get_or-set_same, length-append}
 use Rattle.std.proofs.Math.ListN.{set, length-set, get_or-map}
 use Rattle.std.proofs.Math.Seq.{map-set_same}
 use Rattle.std.proofs.lemmas.Bool.{cases_eq, cases_lt, true≢false, eq-eqb, ne_eqb}
@@ -8,13 +8,12 @@ use Rattle.dd_store.specs.declared.row.Row.{Row}
 use Rattle.dd_store.specs.declared.row.NodeNo.{NodeNo}
 use Rattle.dd_store.specs.declared.slots.slot.Slot.{Slot}
 use Rattle.dd_store.specs.declared.slots.slot.Slot.TheVariants.{Free, Node}
-use Rattle.dd_store.specs.Limits.{most_budget}
 use Rattle.dd_store.specs.Table.{rows_in}
-use Rattle.dd_store.specs.Slots.{Nodes, row_at, mark_at, nodes_in, rows_testing, AddsNode, MarksNode, Sweeps}
+use Rattle.dd_store.specs.Slots.{Nodes, rows_testing, AddsNode, MarksNode, Sweeps}
 use Rattle.dd_store.specs.Chains.{Heads, IsChainOf, AreChained, HangsIn, head_at}
-use Rattle.dd_store.specs.Linked.{AreLinked, AreEmpty, SweepsSlots, IsFree, row_in, next_in, next_of_slot, row_of_slot, is_marked_slot, slot_at, rows_of, marks_of, heads_of, kept_row, KeepsSlots, KeepsOthers, TestsAnother}
+use Rattle.dd_store.specs.Linked.{AreLinked, SweepsSlots, IsFree, row_in, next_in, next_of_slot, row_of_slot, is_marked_slot, slot_at, rows_of, marks_of, heads_of, KeepsSlots, KeepsOthers, TestsAnother}
 use Rattle.dd_store.proofs.ChainLemmas.{keeps, takes, empty, ended}
-use Rattle.dd_store.proofs.RowCounts.{free-there, testing-le, rows_in-some, rows_in-set}
+use Rattle.dd_store.proofs.RowCounts.{free-there, rows_in-some, rows_in-set}
 use Rattle.dd_store.proofs.SlotLemmas.{row-at, row-past, keeps-rows, slot-push_other, slot-push_same}
 
 -- the nodes that slots have, as contracts see them

@@ -161,15 +161,15 @@ sound-with_variable t v sound next room = record {
 
 -- and the fields are tied to it as before
 pub kept-with_variable : (t : Table) (i : Index) (v : Var) → IsKept t i → v.0 ≡ length t.order
-    → length t.order ≢ 4096 → IsKept (with_variable t v) (record i { levels = i.levels ++ v.0 ∷ [] })
-kept-with_variable t i v kept next room = record {
+    → length t.order ≢ 4096 → (variables : ℕ) → variables ≡ i.variables + 1
+    → IsKept (with_variable t v) (record i { variables = variables; levels = i.levels ++ v.0 ∷ [] })
+kept-with_variable t i v kept next room variables one_more = record {
   sound = sound-with_variable t v kept.sound next room;
-  finds = kept.finds;
-  found = kept.found;
-  filled = kept.filled;
+  constants = kept.constants;
   counted = kept.counted;
+  known = one_more ∙ ap (λ k. k + 1) kept.known ∙ sym (length-append t.order (v ∷ []));
+  unmarked = kept.unmarked;
   live_is = kept.live_is;
-  nodes_is = kept.nodes_is;
   leveled = length-append i.levels (v.0 ∷ []) ∙ ap (λ k. k + 1) kept.leveled ∙ sym (length-append t.order (v ∷ []));
   level_is = λ w small. level_is' w small (cases_lt w (length t.order));
 }

@@ -1,7 +1,7 @@
 -- The three ways in which a number comes into a chain: a node behind the last slot, a node in a free slot, and a free slot.
-use Rattle.std.proofs.Common.{◌≡◌, ◌≢◌, ◌⊎◌, ℕ, Bool, true, false, ◌+◌, ◌<◌, ◌≤◌, List, [], ◌∷◌, ◌++◌, length, map, Option, Some, None, is_some, get_or, refl, ap, sym, ◌∙◌, subst, inl, inr, arith, get_or-set_other, get_or-set_same, length-append}
+use Rattle.std.proofs.Common.{◌≡◌, ◌≢◌, ◌⊎◌, ℕ, false, ◌+◌, ◌<◌, List, [], ◌∷◌, ◌++◌, length, Some, is_some, get_or, ap, sym, ◌∙◌, subst, inl, inr, arith, get_or-set_other, get_or-set_same, length-append}
 use Rattle.std.proofs.Math.ListN.{set, length-set}
-use Rattle.std.proofs.lemmas.Bool.{cases_eq, cases_lt, true≢false}
+use Rattle.std.proofs.lemmas.Bool.{cases_eq, true≢false}
 use Rattle.std.proofs.lemmas.List.{map-append, map-set, length-map, get_or_default}
 use Rattle.dd_store.specs.declared.row.Row.{Row}
 use Rattle.dd_store.specs.declared.row.NodeNo.{NodeNo}
@@ -10,12 +10,12 @@ use Rattle.dd_store.specs.declared.slots.slot.Slot.TheVariants.{Free, Node}
 use Rattle.dd_store.specs.Limits.{most_budget}
 use Rattle.dd_store.specs.Table.{rows_in}
 use Rattle.dd_store.specs.Slots.{rows_testing}
-use Rattle.dd_store.specs.Chains.{Heads, IsChainOf, AreChained, HangsIn, bucket_of, head_at, width}
+use Rattle.dd_store.specs.Chains.{Heads, IsChainOf, HangsIn, bucket_of, head_at, width}
 use Rattle.dd_store.specs.Linked.{AreLinked, IsFree, row_in, next_in, next_of_slot, row_of_slot, slot_at, rows_of, heads_of, with_first, IsPlace}
 use Rattle.dd_store.proofs.ChainLemmas.{keeps, puts, takes}
 use Rattle.dd_store.proofs.RowCounts.{rows_in-some, testing-some, rows_in-none, testing-none, rows_in-set, testing-set}
 use Rattle.dd_store.proofs.SlotLemmas.{row-at, slot-push_other, slot-push_same, row-past}
-use Rattle.dd_store.proofs.LinkLemmas.{PutsNode, puts-node}
+use Rattle.dd_store.proofs.LinkLemmas.{puts-node}
 
 -- a node behind the last slot
 pub push-node : (xs : List Slot) (free nodes : ℕ) (variables : List Heads) (n : ℕ) (r : Row) (next : NodeNo) (heads : Heads)

@@ -1,13 +1,12 @@
 -- What a sound table says of a number: where it stands, its ends, and whether its value is that of another one.
-use Rattle.std.proofs.Common.{◌≡◌, ℕ, Bool, if◌then◌else◌, ◌==◌, ◌-◌, ◌<◌, ◌≤◌, suc, true, false, cond, List, [], ◌∷◌, length, Option, Some, None, IsTrue, ◌↔◌, is_some, get_or, refl, ap, sym, ◌∙◌, inl, inr, arith}
+use Rattle.std.proofs.Common.{◌≡◌, ℕ, Bool, if◌then◌else◌, ◌==◌, ◌-◌, ◌<◌, ◌≤◌, suc, true, false, cond, List, [], ◌∷◌, length, Option, Some, None, IsTrue, ◌↔◌, is_some, refl, ap, sym, ◌∙◌, inl, inr, arith}
 use Rattle.std.proofs.lemmas.Bool.{cases_lt, cases_eq, eqb-true, eq-eqb, true≢false}
-use Rattle.std.proofs.lemmas.List.{get_or_past, get_or_default}
+use Rattle.std.proofs.lemmas.List.{get_or_past}
 use Rattle.dd_store.specs.declared.row.Row.{Row}
 use Rattle.dd_store.specs.declared.row.Var.{Var}
 use Rattle.dd_store.specs.Order.{level_in, level_of_row}
 use Rattle.dd_store.specs.Follow.{end_of, IsThere}
 use Rattle.dd_store.specs.Table.{Table, row_of, value_of, top_of, level_of, IsLive, IsSound, HasEnds, HaveSameValues}
-use Rattle.dd_store.specs.Kept.{Index, IsKept}
 use Rattle.dd_store.proofs.FollowLemmas.{follow-none, follow-node}
 use Rattle.dd_store.proofs.Canonical.{canonical}
 
@@ -121,11 +120,6 @@ same-decided t m n r sound live_m live_n tested = (forth, back)
 
     back : HaveSameValues t m n → IsTrue r
     back same = tested ∙ eq-eqb m n (same-place t m n sound live_m live_n same)
-
--- a row that was read is that of the node
-pub row-read : (t : Table) (i : Index) (n : ℕ) (o : Option Row) → IsKept t i → IsThere (row_of t) n
-    → o ≡ get_or t.slots n o → row_of t n ≡ o
-row-read t i n o kept there read = get_or_default t.slots n None o (slot-within t n (omega arith) there) ∙ sym read
 
 -- a node's value isn't one for all assignments
 pub node-varies : (t : Table) (n : ℕ) (r : Row) (b : Bool) → IsSound t → IsLive t n → row_of t n ≡ Some r → ((a : ℕ → Bool) → value_of t n a ≡ b) → ⊥

@@ -1,5 +1,5 @@
 -- Slots that keep their rows and marks.
-use Rattle.std.proofs.Common.{◌≡◌, ◌≢◌, ℕ, ◌+◌, ◌<◌, ◌≤◌, List, [], ◌∷◌, ◌++◌, length, map, inl, inr, arith, length-append, Option, Some, None, get_or, refl, sym, ap, ◌∙◌, subst}
+use Rattle.std.proofs.Common.{◌≡◌, ◌≢◌, ℕ, ◌≤◌, List, [], ◌∷◌, ◌++◌, length, inl, inr, arith, length-append, Option, Some, None, get_or, refl, sym, ap, ◌∙◌, subst}
 use Rattle.std.proofs.Math.ListN.{set, length-set, get_or-map}
 use Rattle.std.proofs.Math.Seq.{map-set_same}
 use Rattle.std.proofs.lemmas.Bool.{cases_lt}
@@ -7,9 +7,9 @@ use Rattle.std.proofs.lemmas.List.{get_or_append_left, get_or_past, get_or_push}
 use Rattle.dd_store.specs.declared.row.Row.{Row}
 use Rattle.dd_store.specs.declared.row.NodeNo.{NodeNo}
 use Rattle.dd_store.specs.declared.slots.slot.Slot.{Slot}
-use Rattle.dd_store.specs.declared.slots.slot.Slot.TheVariants.{Free, Node}
+use Rattle.dd_store.specs.declared.slots.slot.Slot.TheVariants.{Free}
 use Rattle.dd_store.specs.Chains.{HangsIn}
-use Rattle.dd_store.specs.Linked.{row_in, row_of_slot, next_of_slot, is_marked_slot, slot_at, rows_of, marks_of, KeepsSlots, KeepsOthers, TestsAnother, PutsFirst}
+use Rattle.dd_store.specs.Linked.{row_in, row_of_slot, next_of_slot, is_marked_slot, slot_at, rows_of, KeepsSlots, KeepsOthers, TestsAnother, PutsFirst}
 use Rattle.dd_store.proofs.FindLemmas.{hangs-row}
 
 -- a row by its number

@@ -1,19 +1,18 @@
 -- Slots that are put into their chains anew, one number behind the other.
-use Rattle.std.proofs.Common.{◌≡◌, ◌≢◌, ◌⊎◌, ℕ, Bool, true, false, cond, ◌+◌, ◌<◌, ◌≤◌, List, [], ◌∷◌, ◌++◌, length, take, map, Option, Some, None, is_some, get_or, suc, zero, refl, ap, sym, ◌∙◌, subst, inl, inr, arith, get_or-set_other, get_or-set_same}
-use Rattle.std.proofs.Math.ListN.{set, length-set}
+use Rattle.std.proofs.Common.{◌≡◌, ◌≢◌, ℕ, true, false, ◌+◌, ◌<◌, ◌≤◌, List, length, take, Some, None, is_some, refl, ap, sym, ◌∙◌, subst, inl, inr, arith}
+use Rattle.std.proofs.Math.ListN.{set}
 use Rattle.std.proofs.lemmas.Bool.{cases_eq, cases_lt, true≢false}
-use Rattle.std.proofs.lemmas.List.{take_more_set, take_all, length-take-le, length-map, get_or-take, get_or_default}
+use Rattle.std.proofs.lemmas.List.{take_more_set, length-take-le, length-map, get_or-take}
 use Rattle.dd_store.specs.declared.row.Row.{Row}
 use Rattle.dd_store.specs.declared.row.NodeNo.{NodeNo}
 use Rattle.dd_store.specs.declared.slots.slot.Slot.{Slot}
 use Rattle.dd_store.specs.declared.slots.slot.Slot.TheVariants.{Free, Node}
 use Rattle.dd_store.specs.Limits.{most_budget}
 use Rattle.dd_store.specs.Table.{rows_in}
-use Rattle.dd_store.specs.Slots.{rows_testing}
-use Rattle.dd_store.specs.Chains.{Heads, IsChainOf, AreChained, HangsIn, bucket_of, head_at, width}
+use Rattle.dd_store.specs.Chains.{Heads, IsChainOf, HangsIn}
 use Rattle.dd_store.specs.Linked.{AreLinked, AreEmpty, SweepsSlots, IsFree, row_in, next_in, row_of_slot, is_marked_slot, kept_row, slot_at, rows_of, heads_of, IsPlace}
 use Rattle.dd_store.proofs.ChainLemmas.{empty}
-use Rattle.dd_store.proofs.RowCounts.{testing-le, rows_in-le, two-less}
+use Rattle.dd_store.proofs.RowCounts.{testing-le, two-less}
 use Rattle.dd_store.proofs.SlotLemmas.{row-at, row-past}
 use Rattle.dd_store.proofs.PutLemmas.{push-node, push-free}
 

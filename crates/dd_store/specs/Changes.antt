@@ -1,10 +1,9 @@
--- What stays of a table over a call, and why a call refuses.
-use Rattle.std.specs.Prelude.{◌≡◌, ◌≢◌, ℕ, ◌+◌, ◌≤◌, Bool, Some, None}
+-- What stays of a table over a call, and what leaves it.
+use Rattle.std.specs.Prelude.{◌≡◌, ◌≢◌, ◌↔◌, ℕ, ◌+◌, ◌≤◌, Bool, Some, None}
+use Rattle.std.specs.List.{Contains}
 use Rattle.dd_store.specs.declared.row.Row.{Row}
-use Rattle.dd_store.specs.declared.refusal.Refusal.{Refusal}
-use Rattle.dd_store.specs.declared.refusal.Refusal.TheVariants.{OverBudget, OutOfMemory}
-use Rattle.dd_store.specs.Reached.{KeepsReached}
-use Rattle.dd_store.specs.Table.{Table, row_of, node_count, handle_count, value_of, IsLive, IsSound}
+use Rattle.dd_store.specs.Reached.{reached, KeepsReached}
+use Rattle.dd_store.specs.Table.{Table, row_of, node_count, value_of, IsLive, IsSound}
 
 -- each node is there as before
 abbrev pub KeepsRows : Table → Table → Type 0
@@ -44,14 +43,28 @@ pub record AddsRow (old new : Table) (n : ℕ) (r : Row) : Type 0 where
   pub others : (m : ℕ) → m ≢ n → row_of new m ≡ row_of old m
   pub count : node_count new ≡ node_count old + 1
 
+-- a live handle reaches the number
+abbrev pub IsKeptAlive : Table → ℕ → Type 0
+IsKeptAlive t n = (h : ℕ) × IsLive t h × Contains (reached t.order (row_of t) h) n
+
+-- the node has this row and is kept alive
+abbrev pub IsAliveRow : Table → ℕ → Row → Type 0
+IsAliveRow t n r = (row_of t n ≡ Some r) × IsKeptAlive t n
+
+-- the nodes are exactly those before that are kept alive
+abbrev pub IsCollected : Table → Table → Type 0
+IsCollected old new = (n : ℕ) (r : Row) → (row_of new n ≡ Some r) ↔ IsAliveRow old n r
+
+-- so are the nodes but one
+abbrev pub IsCollectedBut : Table → Table → ℕ → Type 0
+IsCollectedBut old new h = (n : ℕ) (r : Row) → n ≢ h → (row_of new n ≡ Some r) ↔ IsAliveRow old n r
+
+-- each node is kept alive
+abbrev pub AreKeptAlive : Table → Type 0
+AreKeptAlive t = (n : ℕ) (r : Row) → row_of t n ≡ Some r → IsKeptAlive t n
+
 -- the ends differ, the table holds as many nodes as its budget, and none of them has this row
 pub record IsFullFor (t : Table) (r : Row) : Type 0 where
   pub differ : r.low.0 ≢ r.high.0
   pub full : node_count t ≡ t.budget
   pub absent : (n : ℕ) → row_of t n ≢ Some r
-
--- Why a node with this row is refused: the table is full, with these numbers of nodes and of live handles. Want of
--- memory has no cause.
-abbrev pub IsCauseFor : Table → Row → Refusal → Type 0
-IsCauseFor t r (OverBudget nodes roots) = IsFullFor t r × (nodes ≡ t.budget) × (roots ≡ handle_count t)
-IsCauseFor t r OutOfMemory = Unit {0}

@@ -6,6 +6,7 @@ pub mod Table
 pub mod Slots
 pub mod Chains
 pub mod Linked
+pub mod Marks
 pub mod Handles
 pub mod Changes
 pub mod Kept
@@ -13,3 +14,4 @@ pub mod Law
 pub mod Size
 pub mod SizeLaws
 pub mod Short
+pub mod Exhausted

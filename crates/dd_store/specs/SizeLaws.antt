@@ -1,11 +1,12 @@
 -- Laws of the number of nodes that functions need.
-use Rattle.std.specs.Prelude.{◌≡◌, ℕ, ◌≤◌, ◌*◌, ◌^◌, Bool, false, nat_eq, nat_le, Option, Some, None}
+use Rattle.std.specs.Prelude.{◌≡◌, ℕ, ◌<◌, ◌≤◌, ◌*◌, ◌^◌, Bool, false, nat_eq, nat_le, Option, Some, None}
 use Rattle.std.specs.Prelude.{List, [], ◌∷◌, ◌++◌, length, map, filter, flat_map, slice_get}
 use Rattle.std.specs.List.{All, Contains}
 use Rattle.std.specs.Set.{distinct_count}
 use Rattle.dd_store.specs.declared.row.Row.{Row}
 use Rattle.dd_store.specs.declared.row.Var.{Var}
-use Rattle.dd_store.specs.Follow.{value_in, IsThere}
+use Rattle.dd_store.specs.Follow.{step, value_in, IsThere}
+use Rattle.dd_store.specs.Order.{level_in, level_of_row, IsIn}
 use Rattle.dd_store.specs.Reached.{reached}
 use Rattle.dd_store.specs.Size.{Function, fixed, cofactors, size, level_size}
 use Rattle.dd_store.specs.Table.{AreReduced}
@@ -88,3 +89,27 @@ ReachedIsLevelSize =
     (ns : List ℕ) → All (IsThere rows) ns → (i : ℕ) (v : Var) → slice_get order i ≡ Some v →
     distinct_count nat_eq (filter (tests rows v.0) (flat_map (reached order rows) ns))
     ≡ level_size order (map (function_of order rows) ns) i
+
+-- Each function is a cofactor of itself.
+abbrev pub IsOwnCofactor : Type 0
+IsOwnCofactor = (order : List Var) (f : Function) → Contains (cofactors order f) f
+
+-- The cofactors of a cofactor are cofactors.
+abbrev pub CofactorsCompose : Type 0
+CofactorsCompose =
+    (order : List Var) (f g h : Function) →
+    Contains (cofactors order f) g → Contains (cofactors order g) h → Contains (cofactors order f) h
+
+-- Fixing a variable gives a cofactor where the function depends on no variable above it.
+abbrev pub FixedIsCofactor : Type 0
+FixedIsCofactor =
+    (order : List Var) (f : Function) (v : ℕ) (b : Bool) → IsIn order v →
+    ((w : ℕ) → level_in order w < level_in order v → IsFreeOf w f) → Contains (cofactors order f) (fixed f v b)
+
+-- A constant or a node with a variable fixed, its own or one above it, has the value of what it leads to past the
+-- variable.
+abbrev pub FixedFollows : Type 0
+FixedFollows =
+    (order : List Var) (rows : ℕ → Option Row) → AreReduced order rows →
+    (n v : ℕ) (b : Bool) → level_in order v ≤ level_of_row order (rows n) →
+    fixed (function_of order rows n) v b ≡ function_of order rows (step (rows n) v n b)

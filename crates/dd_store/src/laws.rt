@@ -1,8 +1,10 @@
 //! Laws of the definitions. The functions do nothing: what they ensure is the law.
+ghost use Rattle.dd_store.specs.Exhausted.{RefusalsCompose, RefusalsLoosen, RefusalsStay};
 ghost use Rattle.dd_store.specs.Law.{ChangesCompose, ValuesTellLevels};
 ghost use Rattle.dd_store.specs.Short.{ShortIsBounded, ShortStays};
 ghost use Rattle.dd_store.specs.SizeLaws.{CofactorsAddNothing, LastVariableAddsNothing, MoreIsNotSmaller};
 ghost use Rattle.dd_store.specs.SizeLaws.{CofactorsAddNothingAtLevels, LastVariableAddsNothingAtLevels};
+ghost use Rattle.dd_store.specs.SizeLaws.{CofactorsCompose, FixedFollows, FixedIsCofactor, IsOwnCofactor};
 ghost use Rattle.dd_store.specs.SizeLaws.{LevelsAreBounded, MoreIsNotSmallerAtLevels, SizeIsBounded};
 ghost use Rattle.dd_store.specs.SizeLaws.{ReachedIsLevelSize, ReachedIsSize};
 
@@ -50,4 +52,21 @@ pub fn last_variable_adds_nothing()
 pub fn short_budgets()
     ensures stays { ShortStays }
     ensures bounded { ShortIsBounded }
+{}
+
+/// What a function gives by fixing the first variables: itself, what such a function gives in turn, and what it gives by
+/// fixing a variable where it depends on none above. Of a node that is the value of an end.
+pub fn cofactors_compose()
+    ensures own { IsOwnCofactor }
+    ensures again { CofactorsCompose }
+    ensures fixed { FixedIsCofactor }
+    ensures follows { FixedFollows }
+{}
+
+/// Why an inner call is refused is why the outer call is, also behind a change of handles alone, and where more partial
+/// results might have been held.
+pub fn refusals_compose()
+    ensures compose { RefusalsCompose }
+    ensures stay { RefusalsStay }
+    ensures loosen { RefusalsLoosen }
 {}

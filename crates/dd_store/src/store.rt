@@ -1,18 +1,17 @@
 //! The store: one table of diagrams under a budget, its live handles and its look-up of nodes.
 ghost use Rattle.std.specs.Prelude.{◌≡◌, ℕ, ◌≤◌, ◌<◌, [], IfOk};
 
+mod collect;
 mod handles;
 mod node;
 mod read;
-pub(crate) mod room;
 mod variables;
 
 use crate::refusal::OutOfMemory;
-use crate::row::{NodeNo, Row, Var};
-use indexmap::IndexMap;
+use crate::row::Var;
+use crate::slots::Slots;
 use std::alloc::Global;
 use std::marker::Model;
-use std::mem::size_of;
 pub use variables::MAX_VARIABLES;
 
 /// The least budget that a table may have.
@@ -26,16 +25,12 @@ pub const MOST_BUDGET: u32 = 16_777_216;
 // of the fields is known to a proof only where one of them is read.
 #[derive(Drop)]
 pub struct Store {
-    /// The row of each node, by the node's number; the two constants have none.
-    slots: Vec<Option<Row>>,
-    /// The number of the node that has a row.
-    numbers: IndexMap<Row, NodeNo>,
+    /// The row of each node, by the node's number, and the number of the node that has a row.
+    slots: Slots,
     /// How many live handles stand on each number.
     counts: Vec<u32>,
     /// How many handles are live.
     live: u32,
-    /// How many nodes there are.
-    nodes: u32,
     /// The variables, from the top down.
     order: Vec<Var>,
     /// The level of each variable, by its number.
@@ -44,29 +39,25 @@ pub struct Store {
     budget: u32,
 }
 
-/// A node takes at most 32 bytes beside its look-up: its slot and its count.
-const _: () = prove!(size_of::<Option<Row>>() + size_of::<u32>() <= 32);
-
 impl Model for Store {
     ghost use Rattle.dd_store.specs.Table.{Table};
-    ghost use Rattle.dd_store.specs.Kept.{IsKept, same_row};
-    ghost use Rattle.indexmap.specs.IndexMap.{get};
+    ghost use Rattle.dd_store.specs.Kept.{IsKept};
 
     ghost Value = { Table };
 
     ghost view = { λ s. record {
-      slots = s.slots.items;
+      slots = s.slots.rows;
       order = s.order.items;
       counts = s.counts.items;
       budget = s.budget;
     } };
 
     ghost invariant = { λ s. IsKept
-        (record { slots = s.slots.items; order = s.order.items; counts = s.counts.items; budget = s.budget })
+        (record { slots = s.slots.rows; order = s.order.items; counts = s.counts.items; budget = s.budget })
         (record {
-          find = get same_row s.numbers;
+          marks = s.slots.marks;
+          variables = s.slots.variables;
           live = s.live;
-          nodes = s.nodes;
           levels = s.levels.items;
         }) };
 }
@@ -87,14 +78,12 @@ impl Store {
         ensures budget { IfOk result (λ store. store.budget ≡ budget) }
         ensures sound { IfOk result IsSound }
     {
-        let slots = Vec::from_slice(alloc, &[None, None])?;
+        let slots = Slots::new(alloc)?;
         let counts = Vec::from_slice(alloc, &[0, 0])?;
         Ok(Store {
             slots,
-            numbers: IndexMap::new(alloc),
             counts,
             live: 0,
-            nodes: 0,
             order: Vec::new(alloc),
             levels: Vec::new(alloc),
             budget,
@@ -106,7 +95,7 @@ impl Store {
         ensures count { result ≡ node_count self.now }
         ensures sound { IsSound self.now }
     {
-        self.nodes
+        self.slots.nodes()
     }
 
     /// How many nodes the table may hold.

@@ -65,7 +65,7 @@ impl Store {
         ensures row { row_of self.now node.0 ≡ result }
         ensures sound { IsSound self.now }
     {
-        self.slots[node.0 as usize]
+        self.slots.row(node)
     }
 
     /// The number of the node on which a handle stands.

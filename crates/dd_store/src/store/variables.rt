@@ -2,9 +2,9 @@
 ghost use Rattle.std.specs.Prelude.{◌≡◌, ℕ, ◌<◌, [], ◌∷◌, ◌++◌, Bool, length, IfOk, OnErr, OnOk, ◌↔◌};
 
 use crate::refusal::AddRefusal;
+use crate::room::push_within_capacity;
 use crate::row::Var;
 use crate::store::Store;
-use crate::store::room::push_within_capacity;
 use std::alloc::Global;
 
 /// How many variables a table may have.
@@ -36,8 +36,10 @@ impl Store {
         }
         let var = Var(count);
         self.order.reserve(1)?;
-        self.levels.push(count)?;
+        self.levels.reserve(1)?;
+        self.slots.add_variable(alloc)?;
         push_within_capacity(&mut self.order, var);
+        push_within_capacity(&mut self.levels, count);
         Ok(var)
     }
 

@@ -1,5 +1,5 @@
 -- Where not all numbers are used, one is free.
-use Rattle.std.proofs.Common.{rules, ◌≡◌, ◌≢◌, ◌+◌, length, arith}
+use Rattle.std.proofs.Common.{rules, ◌≢◌, ◌+◌, length, arith}
 use Rattle.std.proofs.lemmas.List.{length-map}
 use Rattle.dd_store.specs.Linked.{row_of_slot}
 use Rattle.dd_store.proofs.SweepLemmas.{count-below}

@@ -1,5 +1,4 @@
 -- The variable has one empty chain.
-use Rattle.std.proofs.Common.{◌≡◌, ap, ◌∙◌}
 use Rattle.dd_store.proofs.NodesLemmas.{linked-variable}
 use Rattle.dd_store.proofs.slots.Slots.add_variable.Goals as goal
 

@@ -1,5 +1,5 @@
 -- One mark is set.
-use Rattle.std.proofs.Common.{rules, ◌≡◌, ◌<◌, length, true, is_some, sym, ap, ◌∙◌, arith}
+use Rattle.std.proofs.Common.{rules, ◌≡◌, true, is_some, sym, ap, ◌∙◌}
 use Rattle.std.proofs.lemmas.List.{get_or_read}
 use Rattle.dd_store.specs.Linked.{row_in, row_of_slot, next_of_slot, slot_at}
 use Rattle.dd_store.proofs.SlotLemmas.{row-at}

@@ -1,5 +1,5 @@
 -- There are two numbers more.
-use Rattle.std.proofs.Common.{◌≡◌, length, arith}
+use Rattle.std.proofs.Common.{arith}
 use Rattle.std.proofs.lemmas.List.{length-map}
 use Rattle.dd_store.specs.Linked.{row_of_slot}
 use Rattle.dd_store.proofs.SweepLemmas.{count-below}

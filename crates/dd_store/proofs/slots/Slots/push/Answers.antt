@@ -1,9 +1,8 @@
 -- The node stands behind the last number.
-use Rattle.std.proofs.Common.{rules, ◌≡◌, ◌<◌, ◌+◌, [], ◌∷◌, ◌++◌, false, length, ap, sym, ◌∙◌, subst, arith}
+use Rattle.std.proofs.Common.{rules, ◌≡◌, [], ◌∷◌, ◌++◌, false, length, ap, ◌∙◌, subst, arith}
 use Rattle.std.proofs.Math.ListN.{set}
 use Rattle.std.proofs.lemmas.List.{length-map, with_items_is}
 use Rattle.dd_store.specs.declared.slots.slot.Slot.TheVariants.{Node}
-use Rattle.dd_store.specs.Limits.{most_budget}
 use Rattle.dd_store.specs.Linked.{IsPlace, heads_of, row_of_slot}
 use Rattle.dd_store.proofs.SweepLemmas.{each-below}
 use Rattle.dd_store.proofs.PutLemmas.{push-node}

@@ -1,10 +1,8 @@
 -- The node stands under the first free number.
-use Rattle.std.proofs.Common.{rules, ◌≡◌, ◌≢◌, ◌<◌, ◌+◌, false, length, ap, sym, ◌∙◌, subst, arith}
+use Rattle.std.proofs.Common.{rules, ◌≡◌, length, ap, ◌∙◌, subst, arith}
 use Rattle.std.proofs.Math.ListN.{set}
 use Rattle.std.proofs.lemmas.List.{length-map, with_items_is, get_or_read}
-use Rattle.dd_store.specs.declared.slots.slot.Slot.TheVariants.{Node}
-use Rattle.dd_store.specs.Limits.{most_budget}
-use Rattle.dd_store.specs.Linked.{IsPlace, IsFree, heads_of, row_of_slot, next_of_slot, slot_at}
+use Rattle.dd_store.specs.Linked.{IsPlace, heads_of, row_of_slot, next_of_slot, slot_at}
 use Rattle.dd_store.proofs.SweepLemmas.{each-le}
 use Rattle.dd_store.proofs.PutLemmas.{reuse-node}
 use Rattle.dd_store.proofs.NodesLemmas.{adds-reuse, free-some, free-first}

@@ -1,9 +1,8 @@
 -- The numbers were put into their chains anew.
-use Rattle.std.proofs.Common.{rules, ◌≡◌, ◌≤◌, length, sym, ap, ◌∙◌, subst, arith}
+use Rattle.std.proofs.Common.{rules, ◌≡◌, length, ap, ◌∙◌, subst, arith}
 use Rattle.std.specs.Vec.{with_items}
 use Rattle.std.proofs.lemmas.List.{with_items_is}
-use Rattle.dd_store.specs.Linked.{SweepsSlots, rows_of}
-use Rattle.dd_store.specs.Table.{rows_in}
+use Rattle.dd_store.specs.Linked.{SweepsSlots}
 use Rattle.dd_store.proofs.NodesLemmas.{sweeps-seen, sweeps-fewer}
 use Rattle.dd_store.proofs.slots.Slots.sweep.Goals as goal
 

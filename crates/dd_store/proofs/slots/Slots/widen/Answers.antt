@@ -1,9 +1,8 @@
 -- The heads of one variable change.
-use Rattle.std.proofs.Common.{rules, ◌≡◌, ◌<◌, ◌≤◌, length, sym, ap, ◌∙◌, subst, arith}
+use Rattle.std.proofs.Common.{rules, ◌≡◌, ◌<◌, length, ap, ◌∙◌, subst, arith}
 use Rattle.std.proofs.lemmas.List.{get_or_read, with_items_is}
 use Rattle.dd_store.specs.Chains.{Heads}
-use Rattle.dd_store.specs.Limits.{most_budget}
-use Rattle.dd_store.specs.Linked.{AreLinked, KeepsSlots, KeepsOthers, heads_of}
+use Rattle.dd_store.specs.Linked.{KeepsSlots, KeepsOthers, heads_of}
 use Rattle.dd_store.proofs.SweepLemmas.{each-below}
 use Rattle.dd_store.proofs.NodesLemmas.{linked-grown}
 use Rattle.dd_store.proofs.slots.Slots.widen.Goals as goal

@@ -1,5 +1,5 @@
 -- The heads of one variable change.
-use Rattle.std.proofs.Common.{◌≡◌, ap, arith}
+use Rattle.std.proofs.Common.{ap}
 use Rattle.std.proofs.Math.ListN.{set}
 use Rattle.dd_store.proofs.PutLemmas.{hang-place, hang-same}
 use Rattle.dd_store.proofs.slots.chains.hang.Goals as goal

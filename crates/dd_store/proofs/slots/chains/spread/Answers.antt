@@ -1,5 +1,5 @@
 -- All chains were moved.
-use Rattle.std.proofs.Common.{rules, ◌≡◌, length, take, drop, ◌++◌, sym, subst, arith}
+use Rattle.std.proofs.Common.{rules, ◌≡◌, length, take, drop, ◌++◌, sym, subst}
 use Rattle.std.proofs.lemmas.List.{take_at}
 use Rattle.dd_store.specs.Chains.{AreChained}
 use Rattle.dd_store.specs.Linked.{row_in, next_in}

@@ -1,5 +1,5 @@
 -- The chain is walked to its end.
-use Rattle.std.proofs.Common.{rules, ◌≡◌, ◌≢◌, ◌<◌, length, Some, sym, ◌∙◌, inl, inr, arith}
+use Rattle.std.proofs.Common.{rules, ◌≡◌, ◌≢◌, Some, sym, ◌∙◌, inl, arith}
 use Rattle.std.proofs.lemmas.Bool.{true≢false}
 use Rattle.dd_store.specs.Linked.{row_in}
 use Rattle.dd_store.proofs.FindLemmas.{left-start, left-within, left-ended, left-step}

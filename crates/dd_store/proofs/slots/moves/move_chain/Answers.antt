@@ -1,5 +1,5 @@
 -- The chain is walked to its end.
-use Rattle.std.proofs.Common.{◌≡◌, ◌≢◌, ap, sym, ◌∙◌, is_some, refl, inl, inr, arith}
+use Rattle.std.proofs.Common.{◌≡◌, ◌≢◌, ap, is_some, refl, inl, arith}
 use Rattle.dd_store.proofs.FindLemmas.{row-within, hangs-row}
 use Rattle.dd_store.proofs.SlotLemmas.{keeps-all, keeps-then, others-then, others-put}
 use Rattle.dd_store.proofs.MoveLemmas.{moves-start, moves-end, moves-row, moves-step}

@@ -1,5 +1,4 @@
 -- What is left of the chain is still in it, and the rest was moved.
-use Rattle.std.proofs.Common.{◌≡◌, ◌<◌, ◌^◌, length}
 use Rattle.dd_store.specs.Linked.{KeepsSlots, KeepsOthers}
 use Rattle.dd_store.proofs.MoveLemmas.{Moves}
 use Rattle.dd_store.proofs.slots.moves.move_chain.Given as goal

@@ -1,5 +1,4 @@
 -- The chains before this one were moved.
-use Rattle.std.proofs.Common.{◌≡◌, ◌<◌, length}
 use Rattle.dd_store.specs.Chains.{AreMoved}
 use Rattle.dd_store.specs.Linked.{KeepsSlots, KeepsOthers, row_in, next_in}
 use Rattle.dd_store.proofs.slots.moves.move_chains.Given as goal

@@ -1,5 +1,4 @@
 -- The node keeps its row and its mark.
-use Rattle.std.proofs.Common.{◌≡◌, sym}
 use Rattle.dd_store.proofs.SlotLemmas.{keeps-set, keeps-all}
 use Rattle.dd_store.proofs.slots.moves.move_node.Goals as goal
 use Rattle.dd_store.proofs.slots.moves.move_node.Goals.{in-Some, in_default}

@@ -1,5 +1,5 @@
 -- Each number is put behind those before it.
-use Rattle.std.proofs.Common.{rules, ◌≡◌, ◌<◌, ◌≤◌, length, take, Some, sym, ap, ◌∙◌, refl, arith, subst}
+use Rattle.std.proofs.Common.{◌≡◌, ◌<◌, take, sym, ap, ◌∙◌, arith, subst}
 use Rattle.std.proofs.lemmas.List.{take_all}
 use Rattle.dd_store.specs.Linked.{AreLinked, row_of_slot}
 use Rattle.dd_store.proofs.SweepLemmas.{relink-start, swept-start, swept-step, swept-end}

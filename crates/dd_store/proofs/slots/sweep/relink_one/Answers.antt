@@ -1,8 +1,7 @@
 -- The number is put behind those that are in their chains.
-use Rattle.std.proofs.Common.{rules, ◌≡◌, ◌<◌, ◌+◌, length, take, None, sym, ◌∙◌, refl, arith, get_or}
-use Rattle.std.proofs.lemmas.List.{get_or_default, length-take-le}
-use Rattle.dd_store.specs.Limits.{most_budget}
-use Rattle.dd_store.specs.Linked.{row_in, heads_of, slot_at}
+use Rattle.std.proofs.Common.{rules, ◌≡◌, length, take, sym, ◌∙◌, refl, arith}
+use Rattle.std.proofs.lemmas.List.{length-take-le}
+use Rattle.dd_store.specs.Linked.{slot_at}
 use Rattle.dd_store.proofs.SweepLemmas.{count-below, each-below, relink-node, relink-free, kept-row}
 use Rattle.dd_store.proofs.slots.sweep.relink_one.Goals as goal
 
