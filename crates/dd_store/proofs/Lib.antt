@@ -7,6 +7,16 @@ pub mod HandleLemmas
 pub mod ReadLemmas
 pub mod OrderLemmas
 pub mod AddLemmas
+pub mod ChainLemmas
+pub mod FindLemmas
+pub mod SlotLemmas
+pub mod MoveLemmas
+pub mod GrowLemmas
+pub mod RowCounts
+pub mod LinkLemmas
+pub mod PutLemmas
+pub mod SweepLemmas
+pub mod NodesLemmas
 pub mod Computed
 pub mod SizeLemmas
 pub mod AlikeLemmas

@@ -4,6 +4,8 @@ pub mod Follow
 pub mod Reached
 pub mod Table
 pub mod Slots
+pub mod Chains
+pub mod Linked
 pub mod Marks
 pub mod Handles
 pub mod Changes

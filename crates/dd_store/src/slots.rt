@@ -3,26 +3,55 @@ ghost use Rattle.std.specs.Prelude.{◌≡◌, ℕ, ◌≤◌, ◌<◌, ◌+◌,
 ghost use Rattle.std.specs.Prelude.{length, Some, ◌≢◌};
 ghost use Rattle.dd_store.specs.Limits.{most_budget};
 
+mod chains;
+mod find;
+mod moves;
+mod slot;
+mod sweep;
+
 use crate::refusal::OutOfMemory;
+use crate::room::push_within_capacity;
 use crate::row::{NodeNo, Row, Var};
-use std::alloc::{AllocError, Global};
+use crate::slots::chains::{Chains, hang};
+use crate::slots::find::find_in;
+use crate::slots::slot::Slot;
+use crate::slots::sweep::{clear, relink};
+use std::alloc::Global;
 use std::marker::Model;
 
 /// The nodes of a table by their numbers. The numbers 0 and 1 are those of the constants, and have no row. Contracts
 /// see it as the `Nodes` of `specs/Slots.antt`. That no two nodes have one row is the caller's care.
+///
+/// Each number from 2 on is in one chain: that of the free numbers, or one of its variable's, which the ends of its row
+/// choose (Knuth, volume 3, section 6.4).
+// A method that reads no field before it calls another one begins with `let _whole = &self.slots;`: what always holds
+// of the fields is known to a proof only where one of them is read.
 #[derive(Drop)]
 pub(crate) struct Slots {
-    /// How many variables are known.
-    variables: u32,
+    /// What stands under each number.
+    slots: Vec<Slot>,
+    /// The first free number.
+    free: NodeNo,
+    /// How many nodes there are.
+    nodes: u32,
+    /// The chains of each variable.
+    variables: Vec<Chains>,
 }
 
 impl Model for Slots {
-    ghost use Rattle.std.specs.Prelude.{[], ◌∷◌, None};
+    ghost use Rattle.std.specs.Prelude.{length};
     ghost use Rattle.dd_store.specs.Slots.{Nodes};
+    ghost use Rattle.dd_store.specs.Linked.{AreLinked, rows_of, marks_of};
 
     ghost Value = { Nodes };
 
-    ghost view = { λ s. record { rows = None ∷ None ∷ []; marks = []; variables = s.variables } };
+    ghost view = { λ s. record {
+      rows = rows_of s.slots.items;
+      marks = marks_of s.slots.items;
+      variables = length s.variables.items;
+    } };
+
+    ghost invariant = { λ s. AreLinked s.slots.items s.free.0 s.variables.items s.nodes };
 }
 
 impl Slots {
@@ -37,8 +66,14 @@ impl Slots {
         ensures count { IfOk result (λ s. nodes_in s ≡ 0) }
         ensures variables { IfOk result (λ s. s.variables ≡ 0) }
     {
-        let _alloc = alloc;
-        Ok(Slots { variables: 0 })
+        let constant = Slot::Free { next: NodeNo::NO };
+        let slots = Vec::from_slice(alloc, &[constant, constant])?;
+        Ok(Slots {
+            slots,
+            free: NodeNo::NO,
+            nodes: 0,
+            variables: Vec::new(alloc),
+        })
     }
 
     /// Makes the next variable known. The nodes stay as they are.
@@ -47,9 +82,10 @@ impl Slots {
         ensures known { OnOk result (self.new.variables ≡ self.old.variables + 1) }
         ensures refused { OnErr result (self.new.variables ≡ self.old.variables) }
     {
-        let _known = self.variables;
-        let _alloc = alloc;
-        Err(AllocError)
+        self.variables.reserve(1)?;
+        let chains = Chains::new(alloc)?;
+        push_within_capacity(&mut self.variables, chains);
+        Ok(())
     }
 
     /// How many numbers there are, with those of the two constants and those that are free.
@@ -57,8 +93,7 @@ impl Slots {
         ensures size { result ≡ length self.now.rows }
         ensures bounds { (2 ≤ result) × (result ≤ most_budget + 2) }
     {
-        let _known = self.variables;
-        2
+        self.slots.len() as u32
     }
 
     /// How many nodes there are.
@@ -66,8 +101,7 @@ impl Slots {
         ensures count { result ≡ nodes_in self.now }
         ensures within { result + 2 ≤ length self.now.rows }
     {
-        let _known = self.variables;
-        0
+        self.nodes
     }
 
     /// How many nodes test a variable.
@@ -75,8 +109,7 @@ impl Slots {
         requires { var.0 < self.now.variables }
         ensures { result ≡ rows_testing var.0 self.now.rows }
     {
-        let _known = self.variables;
-        0
+        self.variables[var.0 as usize].nodes()
     }
 
     /// The row of a node; none for a constant, and for a number that is free.
@@ -84,8 +117,7 @@ impl Slots {
         requires { node.0 < length self.now.rows }
         ensures { result ≡ row_at self.now node.0 }
     {
-        let _known = self.variables;
-        None
+        self.slots[node.0 as usize].row()
     }
 
     /// A node that has a row, where there is one.
@@ -94,8 +126,7 @@ impl Slots {
         ensures found { IfSome result (λ k. row_at self.now k.0 ≡ Some row) }
         ensures absent { IfNone result ((n : ℕ) → row_at self.now n ≢ Some row) }
     {
-        let _known = self.variables;
-        None
+        find_in(&self.slots, &self.variables[row.var.0 as usize], &row)
     }
 
     /// The number of a new node with this row: one that is free, and else the next one.
@@ -106,9 +137,61 @@ impl Slots {
         ensures refused { OnErr result (KeepsNodes self.old self.new) }
         ensures variables { self.new.variables ≡ self.old.variables }
     {
-        let _known = self.variables;
-        let _alloc = alloc;
-        Err(AllocError)
+        self.widen(alloc, row.var);
+        if self.nodes as usize + 2 == self.slots.len() {
+            self.push(row)
+        } else {
+            Ok(self.reuse(row))
+        }
+    }
+
+    /// Doubles the heads of a variable's chains where its nodes outgrow them and there is memory for it.
+    fn widen(&mut self, alloc: Global, var: Var)
+        requires { var.0 < self.old.variables }
+        ensures nodes { KeepsNodes self.old self.new }
+        ensures variables { self.new.variables ≡ self.old.variables }
+    {
+        self.variables[var.0 as usize].grow(alloc, &mut self.slots, var);
+    }
+
+    /// A new node behind the last number, where none is free.
+    fn push(&mut self, row: Row) -> Result<NodeNo, OutOfMemory>
+        requires variable { row.var.0 < self.old.variables }
+        requires room { nodes_in self.old < most_budget }
+        requires full { nodes_in self.old + 2 ≡ length self.old.rows }
+        ensures added { IfOk result (λ k. AddsNode self.old self.new k.0 row) }
+        ensures refused { OnErr result (KeepsNodes self.old self.new) }
+        ensures variables { self.new.variables ≡ self.old.variables }
+    {
+        self.slots.reserve(1)?;
+        let node = NodeNo(self.slots.len() as u32);
+        let next = hang(&mut self.variables, node, &row);
+        let slot = Slot::Node {
+            marked: false,
+            row,
+            next,
+        };
+        push_within_capacity(&mut self.slots, slot);
+        self.nodes += 1;
+        Ok(node)
+    }
+
+    /// A new node under the first free number.
+    fn reuse(&mut self, row: Row) -> NodeNo
+        requires variable { row.var.0 < self.old.variables }
+        requires free { nodes_in self.old + 2 < length self.old.rows }
+        ensures added { AddsNode self.old self.new result.0 row }
+    {
+        let node = self.free;
+        self.free = self.slots[node.0 as usize].next();
+        let next = hang(&mut self.variables, node, &row);
+        self.slots[node.0 as usize] = Slot::Node {
+            marked: false,
+            row,
+            next,
+        };
+        self.nodes += 1;
+        node
     }
 
     /// Marks a node.
@@ -116,7 +199,8 @@ impl Slots {
         requires { IsSome (row_at self.old node.0) }
         ensures { MarksNode self.old self.new node.0 }
     {
-        let _known = self.variables;
+        let slot = self.slots[node.0 as usize];
+        self.slots[node.0 as usize] = slot.with_mark();
     }
 
     /// Whether a node is marked.
@@ -124,8 +208,7 @@ impl Slots {
         requires { node.0 < length self.now.rows }
         ensures { result ≡ mark_at self.now node.0 }
     {
-        let _known = self.variables;
-        false
+        self.slots[node.0 as usize].is_marked()
     }
 
     /// Frees the numbers of all nodes that are not marked, and takes the marks away. Answers how many nodes went.
@@ -133,7 +216,11 @@ impl Slots {
         ensures swept { Sweeps self.old self.new }
         ensures count { nodes_in self.new + result ≡ nodes_in self.old }
     {
-        let _known = self.variables;
-        0
+        let before = self.nodes;
+        clear(&mut self.variables);
+        let (free, nodes) = relink(&mut self.slots, &mut self.variables);
+        self.free = free;
+        self.nodes = nodes;
+        before - nodes
     }
 }

@@ -4,9 +4,9 @@ ghost use Rattle.std.specs.Prelude.{Some, IfOk, OnErr, IfErr, IfSome, IfNone, Is
 
 use crate::handle::Handle;
 use crate::refusal::{OutOfMemory, Refusal};
+use crate::room::count_up_to;
 use crate::row::{NodeNo, Row, Var};
 use crate::store::Store;
-use crate::store::room::count_up_to;
 use std::alloc::{AllocError, Global};
 
 impl Store {
