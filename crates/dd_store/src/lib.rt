@@ -4,6 +4,7 @@
 mod handle;
 mod laws;
 mod refusal;
+mod room;
 mod row;
 mod slots;
 mod store;

@@ -10,12 +10,12 @@ mod slot;
 mod sweep;
 
 use crate::refusal::OutOfMemory;
+use crate::room::push_within_capacity;
 use crate::row::{NodeNo, Row, Var};
 use crate::slots::chains::{Chains, hang};
 use crate::slots::find::find_in;
 use crate::slots::slot::Slot;
 use crate::slots::sweep::{clear, relink};
-use crate::store::room::push_within_capacity;
 use std::alloc::Global;
 use std::marker::Model;
 

@@ -5,7 +5,6 @@ mod collect;
 mod handles;
 mod node;
 mod read;
-pub(crate) mod room;
 mod variables;
 
 use crate::refusal::OutOfMemory;

@@ -1,12 +1,12 @@
 //! Nodes: the one that has a row is found, or made where the budget leaves room, if need be behind a collection.
 ghost use Rattle.std.specs.Prelude.{◌≡◌, ◌≢◌, ℕ, ◌<◌, Bool, if◌then◌else◌};
-ghost use Rattle.std.specs.Prelude.{Some, IfOk, OnErr, IfErr, IfSome, IfNone};
+ghost use Rattle.std.specs.Prelude.{Some, IfOk, OnErr, IfErr, IfSome, IfNone, IsSome};
 
 use crate::handle::Handle;
 use crate::refusal::{OutOfMemory, Refusal};
+use crate::room::count_up_to;
 use crate::row::{NodeNo, Row, Var};
 use crate::store::Store;
-use crate::store::room::count_up_to;
 use std::alloc::{AllocError, Global};
 
 impl Store {
@@ -72,13 +72,31 @@ impl Store {
             low: low.node,
             high: high.node,
         };
-        if row.low == row.high {
-            return Ok(self.hold(row.low)?);
-        }
-        match self.find(row) {
+        match self.place(row) {
             Some(node) => Ok(self.hold(node)?),
             None => self.insert(alloc, row),
         }
+    }
+
+    /// Where a handle for the row stands without a new node: on the end that both have in common, or on the node that is
+    /// there.
+    fn place(&self, row: Row) -> Option<NodeNo>
+        requires variable { IsVariable self.now row.var.0 }
+        requires low_live { IsLive self.now row.low.0 }
+        ensures there { IfSome result (λ k. IsThere (row_of self.now) k.0) }
+        ensures value { IfSome result (λ k. (a : ℕ → Bool) → value_of self.now k.0 a ≡ asked_by self.now row a) }
+        ensures common_end { IfSome result (λ k. row.low.0 ≡ row.high.0 → k.0 ≡ row.low.0) }
+        ensures row { IfSome result (λ k. row.low.0 ≢ row.high.0 → row_of self.now k.0 ≡ Some row) }
+        ensures not_full { IsSome result → ¬ IsFullFor self.now row }
+        ensures differ { IfNone result (row.low.0 ≢ row.high.0) }
+        ensures absent { IfNone result ((n : ℕ) → row_of self.now n ≢ Some row) }
+        ensures sound { IsSound self.now }
+    {
+        if row.low == row.high {
+            let _whole = &self.slots;
+            return Some(row.low);
+        }
+        self.find(row)
     }
 
     /// The node that has a row, where there is one. It takes no memory and collects nothing.

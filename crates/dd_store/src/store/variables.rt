@@ -2,9 +2,9 @@
 ghost use Rattle.std.specs.Prelude.{◌≡◌, ℕ, ◌<◌, [], ◌∷◌, ◌++◌, Bool, length, IfOk, OnErr, OnOk, ◌↔◌};
 
 use crate::refusal::AddRefusal;
+use crate::room::push_within_capacity;
 use crate::row::Var;
 use crate::store::Store;
-use crate::store::room::push_within_capacity;
 use std::alloc::Global;
 
 /// How many variables a table may have.
