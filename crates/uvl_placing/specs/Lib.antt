@@ -1,0 +1,9 @@
+pub mod Options
+pub mod Bounds
+pub mod Names
+pub mod Trees
+pub mod Meaning
+pub mod Constraints
+pub mod Files
+pub mod Laws
+pub mod Row
