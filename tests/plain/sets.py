@@ -1,0 +1,5 @@
+"""Sets of files."""
+
+
+def sets_at_limits():
+    return []
