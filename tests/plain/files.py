@@ -1,4 +1,6 @@
 """Loading a set of files: the main file, the files that it imports, and so on; or the first fault of one of them."""
+from functools import lru_cache
+
 from .faults import check_tokens
 from .lexing import Fault, tokens_of
 from .syntax import file_of
@@ -20,6 +22,14 @@ class Loaded:
 
     def __init__(self, path, file, targets):
         self.path, self.file, self.targets = path, file, targets
+
+
+@lru_cache(maxsize=64)
+def reading(text):
+    """What a text says. A Fault says why it isn't a file."""
+    tokens = tokens_of(text)
+    check_tokens(tokens)
+    return file_of(tokens)
 
 
 def named_path(path, line):
@@ -55,11 +65,9 @@ class Loading:
         """What the file at a path says."""
         text = self.text_of(path)
         try:
-            tokens = tokens_of(text)
-            check_tokens(tokens)
+            return reading(text)
         except Fault as fault:
             raise FileFault(path, fault.number, fault.place) from None
-        return file_of(tokens)
 
     def faults_of_import(self, line, earlier, target, depth):
         """The faults of a line of `imports`, in the order in which they are asked for."""
