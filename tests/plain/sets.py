@@ -311,6 +311,8 @@ def sets_of_many_files():
     yield "the last of 18 loaded before", again, "f0.uvl", "fault f16.uvl:2:2 E21 ImportDepth\n"
     met = {**row_of_files(17), "f0.uvl": file_with(["f16 as x", "f1"], "\tA"), "f16.uvl": file_with(["leaf"], "\tA"), "leaf.uvl": LEAF}
     yield "first met at depth 1", met, "f0.uvl", TAKEN
+    each_later = {f"f{number}.uvl": file_with([f"f{it}" for it in range(number + 1, 17)], "\tA") for number in range(17)}
+    yield "17 files of which each imports all behind it", {**each_later, "f16.uvl": LEAF}, "f0.uvl", TAKEN
     yield "256 files", importing(255), MAIN, TAKEN
     yield "256 files, one under two qualifiers", importing(255, "f7 as x"), MAIN, TAKEN
     yield "257 files", importing(256), MAIN, "fault main.uvl:257:2 E26 TooManyFiles\n"
@@ -340,7 +342,8 @@ def sets_of_many_features():
     large = b"features\n\tA {constraint !" + b"A|" * 4096 + b"A}\n"
     files = {"large.uvl": large, MAIN: file_with(["large"], "\tA")}
     yield "8,194 nodes in one rule", files, MAIN, "fault large.uvl:2:8208 E17 ExpressionTooLarge\n"
-    files = {"sub.uvl": LEAF, MAIN: file_with([f'sub as "{"q" * 1000000}"'], f'\t"{"q" * 1000000}".A')}
+    long = '"' + "q" * 1000000 + '"'
+    files = {"sub.uvl": LEAF, MAIN: file_with([f"sub as {long}"], f"\t{long}.A")}
     yield "a qualifier of a million characters", files, MAIN, TAKEN
 
 
