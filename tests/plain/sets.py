@@ -352,6 +352,7 @@ def sets_of_many_rules():
     yield "65,536 rules", doubling(9, many), "d9.uvl", TAKEN
     yield "65,537 rules", doubling(9, many, ["Z"]), "d9.uvl", "fault d9.uvl:10:2 E31 TooManyRules\n"
     yield "65,537 rules with an operator", doubling(9, many, ["Z & A"]), "d9.uvl", "fault d9.uvl:10:4 E31 TooManyRules\n"
+    yield "65,537 rules with an opposite", doubling(9, many, ["!(Z)"]), "d9.uvl", "fault d9.uvl:10:2 E31 TooManyRules\n"
     yield "131,072 rules", doubling(10, many), "d10.uvl", "fault d10.uvl:8:4 E31 TooManyRules\n"
     large = b"features\n\tA\nconstraints\n\t!A" + b"&A" * 4095 + b"\n"
     yield "4,194,304 nodes", doubling(9, large), "d9.uvl", TAKEN
