@@ -1,9 +1,9 @@
-"""Sets of files made at random, most of them right or nearly right; and sets at the limits, with what is wanted of each."""
+"""Sets of files made at random, most of them right or nearly right."""
 import re
 from collections import namedtuple
 
 from .lexing import RESERVED
-from .texts import chain, with_bad_character
+from .texts import with_bad_character
 
 MOST_NAMES, MAIN = 10, "main.uvl"
 PLACES = ["f{}.uvl", "f{}.uvl", "f{}.uvl", "sub/f{}.uvl", "sub/f{}.uvl", "big parts/v1.{}.uvl", "sub/in/f{}.uvl"]
@@ -174,33 +174,29 @@ def some_line(random_, drafts, *kinds):
     return random_.choice(lines) if lines else (None, None)
 
 
-def append_to(*kinds):
+def append_to(kind, texts):
     """A fault that appends one of some texts to a line."""
-    *kinds, texts = kinds
-
     def change(random_, drafts):
-        _, line = some_line(random_, drafts, *kinds)
+        _, line = some_line(random_, drafts, kind)
         if line:
             line.text += random_.choice(texts)
     return change
 
 
-def replace_by(*kinds):
+def replace_by(kind, texts):
     """A fault that puts one of some texts in place of a line's own."""
-    *kinds, texts = kinds
-
     def change(random_, drafts):
-        _, line = some_line(random_, drafts, *kinds)
+        _, line = some_line(random_, drafts, kind)
         if line:
             line.text = random_.choice(texts)
     return change
 
 
-def repeat_line(*kinds):
-    """A fault that has a line stand once more, at the end of its own group or list."""
+def repeat_line(kind):
+    """A fault that has a line stand once more, behind itself; not that of the root."""
     def change(random_, drafts):
-        draft, line = some_line(random_, drafts, *kinds)
-        if line and line.depth > (line.kind != "import"):
+        draft, line = some_line(random_, drafts, kind)
+        if line and (line.kind == "import" or line.depth > 1):
             draft.lines.insert(draft.lines.index(line) + 1, Line(line.kind, line.depth, line.text))
     return change
 
@@ -231,7 +227,6 @@ def indent_badly(random_, drafts):
         line.depth += random_.choice([-1, 1])
 
 
-TREE = ("feature", "placing")
 WRONGS = [
     append_to("feature", [" {p, p}", " {p 1, q {r, \"r\"}}", " {constraint Z}", " {p 1234567890123}", " {p [{r, r}]}"]),
     append_to("placing", [" {p}", " {constraint A}", " {constraints [A, B]}", "x", ".A", " {}"]),
@@ -266,102 +261,3 @@ def random_set(random_):
     for _ in range(random_.choice([0, 0, 0, 1, 1, 1, 1, 2])):
         random_.choice(WRONGS)(random_, drafts)
     return {draft.path: written(random_, draft) for draft in drafts}
-
-
-# ---- sets at the limits, with what is wanted for the script of the one line `valid`
-
-TAKEN = "no\n.\n"
-LEAF = b"features\n\tA\n"
-
-
-def file_with(imports, *tree, rules=()):
-    """The bytes of a file with these lines of imports, a tree and rules."""
-    lines = ["imports", *(f"\t{line}" for line in imports), "features", *tree, "constraints", *(f"\t{rule}" for rule in rules)]
-    return "".join(f"{line}\n" for line in lines).encode()
-
-
-def row_of_files(length):
-    """Files f0, f1, .. of which each imports the next, but for the last."""
-    files = {f"f{number}.uvl": file_with([f"f{number + 1}"], "\tA") for number in range(length - 1)}
-    return {**files, f"f{length - 1}.uvl": LEAF}
-
-
-def doubling(steps, base, rules=()):
-    """Files d0, d1, .. of which each places the one before it twice; d0 has these bytes, and the last file these rules."""
-    files = {"d0.uvl": base}
-    for number in range(1, steps + 1):
-        below = f"d{number - 1}"
-        tree = "\tA", "\t\toptional", "\t\t\tx.A", "\t\t\ty.A"
-        files[f"d{number}.uvl"] = file_with([f"{below} as x", f"{below} as y"], *tree, rules=rules if number == steps else ())
-    return files
-
-
-def importing(count, *more):
-    """A main file that imports so many files, and more lines; with these files."""
-    files = {f"f{number}.uvl": LEAF for number in range(count)}
-    return {**files, MAIN: file_with([*(f"f{number}" for number in range(count)), *more], "\tA")}
-
-
-def sets_of_many_files():
-    yield "17 files in a row", row_of_files(17), "f0.uvl", TAKEN
-    yield "18 files in a row", row_of_files(18), "f0.uvl", "fault f16.uvl:2:2 E21 ImportDepth\n"
-    lost = {path: data for path, data in row_of_files(18).items() if path != "f17.uvl"}
-    yield "the last of 18 missing", lost, "f0.uvl", "fault f16.uvl:2:2 E21 ImportDepth\n"
-    again = {**row_of_files(18), "f0.uvl": file_with(["f17 as x", "f1"], "\tA")}
-    yield "the last of 18 loaded before", again, "f0.uvl", "fault f16.uvl:2:2 E21 ImportDepth\n"
-    met = {**row_of_files(17), "f0.uvl": file_with(["f16 as x", "f1"], "\tA"), "f16.uvl": file_with(["leaf"], "\tA"), "leaf.uvl": LEAF}
-    yield "first met at depth 1", met, "f0.uvl", TAKEN
-    each_later = {f"f{number}.uvl": file_with([f"f{it}" for it in range(number + 1, 17)], "\tA") for number in range(17)}
-    yield "17 files of which each imports all behind it", {**each_later, "f16.uvl": LEAF}, "f0.uvl", TAKEN
-    yield "256 files", importing(255), MAIN, TAKEN
-    yield "256 files, one under two qualifiers", importing(255, "f7 as x"), MAIN, TAKEN
-    yield "257 files", importing(256), MAIN, "fault main.uvl:257:2 E26 TooManyFiles\n"
-    yield "the last of 257 missing", importing(255, "nowhere"), MAIN, "fault main.uvl:257:2 E26 TooManyFiles\n"
-    yield "the last of 257 badly named", importing(255, '"."'), MAIN, "fault main.uvl:257:2 E29 BadImportName\n"
-    long = {"sub.uvl": LEAF, MAIN: file_with(["sub"], "\tA"), "big.uvl": b" " * 8388609}
-    yield "a file that is too long", {**long, MAIN: file_with(["sub", "big"], "\tA")}, MAIN, "fault big.uvl:1:1 E02 TooLong\n"
-    yield "an imported file that is missing", importing(3, "sub"), MAIN, "fault sub.uvl:1:1 E01 Absent\n"
-
-
-def sets_of_many_features():
-    def members(count):
-        return "".join(f"\t\t\tF{number}\n" for number in range(count))
-
-    root = "features\n\tR\n\t\toptional\n"
-    yield "2,048 features", {MAIN: (root + members(2047)).encode()}, MAIN, TAKEN
-    yield "2,049 features", {MAIN: (root + members(2048)).encode()}, MAIN, "fault main.uvl:2051:4 E23 TooManyFeatures\n"
-    yield "2,047 placed features", doubling(10, LEAF), "d10.uvl", TAKEN
-    yield "4,095 placed features", doubling(11, LEAF), "d11.uvl", "fault d11.uvl:8:4 E23 TooManyFeatures\n"
-    below = file_with(["deep"], "\tA", "\t\toptional", "\t\t\tB", "\t\t\tdeep.F1")
-    files = {"deep.uvl": chain(63, "\n").encode(), MAIN: below}
-    yield "a chain of 63 below a root", files, MAIN, TAKEN
-    files = {"deep.uvl": chain(64, "\n").encode(), MAIN: below}
-    yield "a chain of 64 below a root", files, MAIN, "fault main.uvl:7:4 E24 TooDeep\n"
-    files = {"deep.uvl": chain(64, "\n").encode(), MAIN: file_with(["deep"], "\tdeep.F1")}
-    yield "a chain of 64 as the root", files, MAIN, TAKEN
-    large = b"features\n\tA {constraint !" + b"A|" * 4096 + b"A}\n"
-    files = {"large.uvl": large, MAIN: file_with(["large"], "\tA")}
-    yield "8,194 nodes in one rule", files, MAIN, "fault large.uvl:2:8208 E17 ExpressionTooLarge\n"
-    long = '"' + "q" * 1000000 + '"'
-    files = {"sub.uvl": LEAF, MAIN: file_with([f"sub as {long}"], f"\t{long}.A")}
-    yield "a qualifier of a million characters", files, MAIN, TAKEN
-
-
-def sets_of_many_rules():
-    many = b"features\n\tA\nconstraints\n" + b"\tA\n" * 128
-    yield "65,536 rules", doubling(9, many), "d9.uvl", TAKEN
-    yield "65,537 rules", doubling(9, many, ["Z"]), "d9.uvl", "fault d9.uvl:10:2 E31 TooManyRules\n"
-    yield "65,537 rules with an operator", doubling(9, many, ["Z & A"]), "d9.uvl", "fault d9.uvl:10:4 E31 TooManyRules\n"
-    yield "65,537 rules with an opposite", doubling(9, many, ["!(Z)"]), "d9.uvl", "fault d9.uvl:10:2 E31 TooManyRules\n"
-    yield "131,072 rules", doubling(10, many), "d10.uvl", "fault d10.uvl:8:4 E31 TooManyRules\n"
-    large = b"features\n\tA\nconstraints\n\t!A" + b"&A" * 4095 + b"\n"
-    yield "4,194,304 nodes", doubling(9, large), "d9.uvl", TAKEN
-    yield "4,194,305 nodes", doubling(9, large, ["A"]), "d9.uvl", "fault d9.uvl:10:2 E31 TooManyRules\n"
-    yield "8,388,608 nodes", doubling(10, large), "d10.uvl", "fault d10.uvl:8:4 E31 TooManyRules\n"
-
-
-def sets_at_limits():
-    """Titles, files, main files and what is wanted."""
-    yield from sets_of_many_files()
-    yield from sets_of_many_features()
-    yield from sets_of_many_rules()
