@@ -29,8 +29,8 @@ Import = namedtuple("Import", "qualifier draft")
 class Draft:
     """A file that is being made: its lines, and what a file that imports it has to know."""
 
-    def __init__(self, path):
-        self.path, self.lines = path, []
+    def __init__(self, path, most_names):
+        self.path, self.lines, self.most_names = path, [], most_names
         self.names, self.imports = [], []  # local names, the root's first, and the imports that aren't placed
 
     def folder(self):
@@ -110,7 +110,7 @@ def random_braces(random_, draft):
 
 def bring(random_, draft, depth):
     """A feature line for the tree, or none: its kind, its text, and the names that it brings."""
-    fitting = [it for it in draft.imports if len(draft.names) + len(it.draft.names) <= MOST_NAMES]
+    fitting = [it for it in draft.imports if len(draft.names) + len(it.draft.names) <= draft.most_names]
     if fitting and random_.random() < (0.7 if depth > 1 else 0.1):
         it = random_.choice(fitting)
         names = [f"{it.qualifier}.{name}" for name in it.draft.names]
@@ -118,7 +118,7 @@ def bring(random_, draft, depth):
             draft.imports.remove(it)
             return "placing", f"{split(random_, it.qualifier)}.{spelled(random_, it.draft.names[0])}", names
     name = random_.choice(OWN_NAMES)
-    if name in draft.names or len(draft.names) >= MOST_NAMES:
+    if name in draft.names or len(draft.names) >= draft.most_names:
         return None
     return "feature", random_.choice(["", "", "", "Boolean "]) + spelled(random_, name), [name]
 
@@ -156,7 +156,7 @@ def add_rules(random_, draft):
 
 
 def random_draft(random_, path, drafts):
-    draft = Draft(path)
+    draft = Draft(path, MOST_NAMES if path == MAIN else random_.randrange(1, 7))
     if random_.random() < 0.2:
         draft.add("heading", 0, "namespace N")
     add_imports(random_, draft, drafts)
