@@ -6,6 +6,7 @@ from .lexing import RESERVED
 from .texts import with_bad_character
 
 MOST_NAMES, MAIN = 10, "main.uvl"
+TWICE = 0.2  # how often names are placed of which one is there already
 PLACES = ["f{}.uvl", "f{}.uvl", "f{}.uvl", "sub/f{}.uvl", "sub/f{}.uvl", "big parts/v1.{}.uvl", "sub/in/f{}.uvl"]
 OWN_NAMES = ["A", "B", "C", "D", "E", "a b", "é", "or", "x.A", "x.B", "y.A.B", "A.p"]
 ALIASES = ["x", "x", "y", "y", "z", "x.y", "y.A", "q r", None]
@@ -114,11 +115,11 @@ def bring(random_, draft, depth):
     if fitting and random_.random() < (0.7 if depth > 1 else 0.1):
         it = random_.choice(fitting)
         names = [f"{it.qualifier}.{name}" for name in it.draft.names]
-        if not set(names) & set(draft.names):
+        if not set(names) & set(draft.names) or random_.random() < TWICE:
             draft.imports.remove(it)
             return "placing", f"{split(random_, it.qualifier)}.{spelled(random_, it.draft.names[0])}", names
     name = random_.choice(OWN_NAMES)
-    if name in draft.names or len(draft.names) >= draft.most_names:
+    if len(draft.names) >= draft.most_names or name in draft.names and random_.random() >= TWICE / 10:
         return None
     return "feature", random_.choice(["", "", "", "Boolean "]) + spelled(random_, name), [name]
 
@@ -229,11 +230,13 @@ def indent_badly(random_, drafts):
 
 WRONGS = [
     append_to("feature", [" {p, p}", " {p 1, q {r, \"r\"}}", " {constraint Z}", " {p 1234567890123}", " {p [{r, r}]}"]),
+    append_to("feature", [" {p [{r, r}]}", " {p [1, [{r 2, \"r\"}]], p}", " {constraints [Y, Z]}"]),
     append_to("placing", [" {p}", " {constraint A}", " {constraints [A, B]}", "x", ".A", " {}"]),
     append_to("rule", [" & Zz", " => x.Zz", " | \"Z z\" & Z", " / 2", " )", " & (A", " > len(p)", " & 'kg'", " @"]),
     append_to("import", [" as v", ".v", " as x"]),
     replace_by("import", ["\"..\".a", "\".\" as x", "\"a/b\"", "nowhere.f1 as x", "\"a\0b\""]),
     replace_by("group", ["[3..1]", "[2..0]", "[0]", "[2]", "[4..*]", "[1..]"]),
+    replace_by("feature", ["Q", "Q {constraint Zz}", "Boolean A"]),
     replace_by("feature", ["Integer A", "A cardinality [1..2]", "x.A", "A.B", "String S"]),
     replace_by("placing", ["x.A", "y.B", "v.A", "\"x.A\"", "x.y.A"]),
     replace_by("rule", ["avg(p) > 1", "sum(p, A) > 1", "A => Zz", "floor(p) == 1"]),
