@@ -1,1 +1,1 @@
-"""Plain, slow readers of models and of scripts, written from docs/ alone. The program is compared with them."""
+"""Plain, slow readers of models, of sets of files and of scripts, written from docs/ alone. The program is compared with them."""

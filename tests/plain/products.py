@@ -1,0 +1,75 @@
+"""Whether a set of features is a product, by recursion on the tree; and what is answered for a set of files."""
+import itertools
+
+from .faults import NAMES
+from .files import FileFault
+from .placing import model_of, trees_in
+from .script import WORD
+from .syntax import dotted
+
+FAULTS = {
+    1: "Absent", 2: "TooLong", 3: "NotUtf8", 13: "DuplicateFeature", 14: "DuplicateAttribute", 15: "UnknownFeature",
+    19: "BadRange", 20: "ImportCycle", 21: "ImportDepth", 22: "PlacedTwice", 23: "TooManyFeatures", 26: "TooManyFiles",
+    28: "MissingFeatures", 29: "BadImportName", 30: "BodyOnPlacedImport", 31: "TooManyRules", **NAMES,
+}
+
+
+def is_absent(tree, chosen):
+    """Whether no feature of a tree is chosen."""
+    return all(it.name not in chosen for it in trees_in(tree))
+
+
+def fits(tree, chosen):
+    """Whether a tree whose feature is chosen allows the choice below it."""
+    for group in tree.groups:
+        if not group.low <= sum(1 for it in group.trees if it.name in chosen) <= group.high:
+            return False
+        if not all(fits(it, chosen) if it.name in chosen else is_absent(it, chosen) for it in group.trees):
+            return False
+    return True
+
+
+def holds(rule, front, chosen):
+    """Whether a rule without numbers holds, with a text in front of its names."""
+    if rule.kind == "reference":
+        return front + dotted(rule.parts) in chosen
+    values = [holds(part, front, chosen) for part in rule.parts]
+    if rule.kind == "!":
+        return not values[0]
+    left, right = values
+    return {"&": left and right, "|": left or right, "=>": right or not left, "<=>": left == right}[rule.kind]
+
+
+def is_product(model, chosen):
+    return (model.tree.name in chosen and chosen <= set(model.names) and fits(model.tree, chosen)
+            and all(holds(rule, front, chosen) for front, rule in model.rules()))
+
+
+def sets_of(model):
+    """All sets of a model's features."""
+    for count in range(len(model.names) + 1):
+        yield from map(set, itertools.combinations(model.names, count))
+
+
+def reply_to(model, line):
+    """The reply to a line of a script, which is `void`, or `valid` with names."""
+    command, *names = [quoted or plain for quoted, plain in WORD.findall(line)]
+    if command == "void":
+        return "no" if any(is_product(model, chosen) for chosen in sets_of(model)) else "yes"
+    if not set(names) <= set(model.names):
+        return "refused unknown-feature"
+    return "yes" if is_product(model, set(names)) else "no"
+
+
+def fault_line(fault):
+    line, column = fault.place
+    return f"fault {fault.path}:{line}:{column} E{fault.number:02} {FAULTS[fault.number]}\n"
+
+
+def answer(contents, main, lines):
+    """What the program writes for the files at some paths, of which one is the main file, and a script; and its status."""
+    try:
+        model = model_of(contents, main)
+    except FileFault as fault:
+        return fault_line(fault), 3
+    return "".join(f"{reply_to(model, line)}\n.\n" for line in lines), 0
