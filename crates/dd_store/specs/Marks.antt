@@ -26,7 +26,8 @@ abbrev pub IsReachedFrom : List Var → (ℕ → Option Row) → List ℕ → �
 IsReachedFrom order rows counts n = (h : ℕ) × (0 < slice_index counts h) × Contains (reached order rows h) n
 
 -- What is marked is reached from the handles below the number and has done ends, and these are done.
-pub record MarksBelow (order : List Var) (rows : ℕ → Option Row) (counts : List ℕ) (marks : ℕ → Bool) (below : ℕ) : Type 0 where
+pub record MarksBelow (order : List Var) (rows : ℕ → Option Row) (counts : List ℕ) (marks : ℕ → Bool) (below : ℕ)
+    : Type 0 where
   pub ends : (n : ℕ) → marks n ≡ true → HasDoneEnds rows marks n
   pub reached : (n : ℕ) → marks n ≡ true → IsReachedFrom order rows counts n
   pub done : (h : ℕ) → h < below → 0 < slice_index counts h → IsDone rows marks h

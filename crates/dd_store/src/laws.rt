@@ -54,8 +54,8 @@ pub fn short_budgets()
     ensures bounded { ShortIsBounded }
 {}
 
-/// What a function gives by fixing the first variables: itself, what such a function gives in turn, and what it gives by
-/// fixing a variable where it depends on none above. Of a node that is the value of an end.
+/// What a function gives by fixing the first variables: itself, what such a function gives in turn, and what it gives
+/// by fixing a variable where it depends on none above. Of a node that is the value of an end.
 pub fn cofactors_compose()
     ensures own { IsOwnCofactor }
     ensures again { CofactorsCompose }

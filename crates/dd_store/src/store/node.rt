@@ -78,8 +78,8 @@ impl Store {
         }
     }
 
-    /// Where a handle for the row stands without a new node: on the end that both have in common, or on the node that is
-    /// there.
+    /// Where a handle for the row stands without a new node: on the end that both have in common, or on the node that
+    /// is there.
     fn place(&self, row: Row) -> Option<NodeNo>
         requires variable { IsVariable self.now row.var.0 }
         requires low_live { IsLive self.now row.low.0 }
