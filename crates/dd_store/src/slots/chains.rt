@@ -1,14 +1,15 @@
 //! The chains of one variable: a head for each, and how many nodes hang in them.
-ghost use Rattle.std.specs.Prelude.{◌≡◌, ℕ, ◌<◌, ◌≤◌, ◌+◌, ◌*◌, ◌^◌, [], ◌∷◌, length, set, replicate, IfOk, IfSome, IfNone};
+ghost use Rattle.std.specs.Prelude.{◌≡◌, ℕ, ◌<◌, ◌≤◌, ◌+◌, ◌*◌, ◌^◌, [], ◌∷◌, length, set, IfOk, IfSome, IfNone};
 ghost use Rattle.dd_store.specs.Limits.{most_budget};
 ghost use Rattle.dd_store.specs.Chains.{head_at, bucket_of, AreChained};
-ghost use Rattle.dd_store.specs.Linked.{row_in, next_in, KeepsSlots, KeepsOthers, IsPlace, heads_of};
+ghost use Rattle.dd_store.specs.Linked.{row_in, next_in, KeepsSlots, KeepsOthers, IsPlace, heads_of, AreEmpty};
 
 use crate::refusal::OutOfMemory;
 use crate::row::{NodeNo, Row, Var};
 use crate::slots::moves::move_chains;
 use crate::slots::slot::Slot;
 use std::alloc::Global;
+use std::cmp::max;
 use std::marker::Model;
 
 /// The heads of the chains in which the nodes of one variable hang. There is always one.
@@ -101,11 +102,12 @@ impl Chains {
         }
     }
 
-    /// Empties the chains.
+    /// Empties the chains, and keeps at most as many heads as nodes hung in them.
     pub(crate) fn clear(&mut self)
-        ensures heads { self.new.heads ≡ replicate (width self.old) (record { 0 = 0 }) }
-        ensures nodes { self.new.nodes ≡ 0 }
+        ensures { AreEmpty self.new }
     {
+        self.heads.truncate(max(self.nodes, 1) as usize);
+        self.heads.shrink_to_fit();
         self.heads.fill(NodeNo::NO);
         self.nodes = 0;
     }
