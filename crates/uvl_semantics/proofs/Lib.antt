@@ -1,3 +1,4 @@
+pub mod Examples
 pub mod Membership
 pub mod NoProduct
 pub mod Sets
