@@ -91,7 +91,10 @@ fn a_table_full_of_held_nodes_refuses(rt: HostRuntime) -> Result<(), Fail> {
     }
     let refused = literal(alloc, &mut store)?;
     // beside the sixteen the two constants were held
-    let why = Some(Refusal::OverBudget { nodes: 16, roots: 18 });
+    let why = Some(Refusal::OverBudget {
+        nodes: 16,
+        roots: 18,
+    });
     assert!(rt; refused.err() == why);
     assert!(rt; store.collect() == 0);
     assert!(rt; store.nodes() == 16);
