@@ -1,4 +1,5 @@
 //! Each call on its happy path, the limit on variables, and a full table with and without what can be freed.
+ghost use Rattle.std.specs.Prelude.{IfOk};
 ghost use Rattle.dd_store.specs.Table.{IsLive};
 
 use dd_store::{AddRefusal, Handle, NodeNo, Refusal, Store};
