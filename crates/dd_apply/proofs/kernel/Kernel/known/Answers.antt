@@ -1,0 +1,7 @@
+-- What is settled without the table is right in it.
+use Rattle.dd_apply.proofs.JoinLemmas.{settles-right}
+use Rattle.dd_apply.proofs.kernel.Kernel.known.Goals as goal
+
+pub returns-in-Some-clause-right : goal.returns-in-Some-clause-right
+returns-in-Some-clause-right c =
+    settles-right c.args.self.now c.order-order.ensures.sound c.args.operation c.args.a.0 c.args.b.0 c.in-Some.node.0 c.requires.a_held c.requires.b_held c.in-Some.ensures.settled

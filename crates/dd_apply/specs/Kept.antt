@@ -1,0 +1,10 @@
+-- The pairs in a cache.
+use Rattle.std.specs.Prelude.{List, [], Option, Some, None}
+use Rattle.lru.specs.LruCache.{LruCache}
+use Rattle.dd_store.specs.declared.row.NodeNo.{NodeNo}
+use Rattle.dd_apply.specs.declared.question.Question.{Question}
+
+-- the pairs of question and answer that a cache holds; none where it isn't made yet
+abbrev pub entries_of : Option (LruCache Question NodeNo) → List (Question × NodeNo)
+entries_of None = []
+entries_of (Some cache) = cache.entries
