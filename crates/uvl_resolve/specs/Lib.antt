@@ -1,0 +1,4 @@
+pub mod Under
+pub mod Flat
+pub mod Laws
+pub mod steps

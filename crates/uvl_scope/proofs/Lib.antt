@@ -1,0 +1,13 @@
+mod NameKeys
+mod OneAnswer
+mod RuleNodes
+mod Repeats
+mod Dotting
+mod Unknown
+mod Distinct
+mod Offering
+mod PlacedParts
+mod LineKinds
+mod Walked
+mod WalkLines
+mod RulesWalked

@@ -1,0 +1,12 @@
+pub mod Limits
+pub mod Firsts
+pub mod Lines
+pub mod Keys
+pub mod Rules
+pub mod Brought
+pub mod LineFaults
+pub mod RuleFaults
+pub mod Faults
+pub mod Trees
+pub mod Law
+pub mod steps

@@ -1,0 +1,21 @@
+//! What is wrong in a set of files, and which names are in scope in each of them.
+#![tactic(auto)]
+
+mod fault;
+mod imports;
+mod keys;
+mod law;
+mod limits;
+mod names;
+mod rule_walk;
+mod rules;
+mod scope;
+mod spelling;
+mod tally;
+mod walk;
+
+pub use fault::ScopeFault;
+pub use law::each_set_has_one_answer;
+pub use limits::{MOST_NODES, MOST_RULES};
+pub use names::NameIndex;
+pub use scope::{Scope, Scopes};
