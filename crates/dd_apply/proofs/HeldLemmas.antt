@@ -10,8 +10,7 @@ use Rattle.dd_store.specs.Reached.{reached, KeepsReached}
 use Rattle.dd_store.specs.Table.{Table, row_of, IsLive, IsSound}
 use Rattle.dd_store.proofs.ChangeLemmas.{reached-same, reached-there}
 use Rattle.dd_store.proofs.CollectLemmas.{follow-kept, reached-all}
-use Rattle.dd_apply.proofs.EndLemmas.{reached-end}
-use Rattle.dd_store.proofs.MarkLemmas.{reached-itself}
+use Rattle.dd_store.proofs.MarkLemmas.{reached-end, reached-itself}
 use Rattle.dd_store.proofs.SizeLemmas.{in_from, contains_from}
 use Rattle.dd_apply.specs.Held.{IsHeld, Stays}
 

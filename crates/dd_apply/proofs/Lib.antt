@@ -1,4 +1,3 @@
-mod EndLemmas
 pub mod ResultLemmas
 pub mod RightLemmas
 pub mod HeldLemmas

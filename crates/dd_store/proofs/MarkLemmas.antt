@@ -34,7 +34,7 @@ lower-reached v vs rows n m lower (inr is) =
     ]
 
 -- what an end reaches its node reaches
-reached-end : (vs : List Var) (rows : ℕ → Option Row) (n m : ℕ) (r : Row) (b : Bool) → rows n ≡ Some r → IsIn vs r.var.0
+pub reached-end : (vs : List Var) (rows : ℕ → Option Row) (n m : ℕ) (r : Row) (b : Bool) → rows n ≡ Some r → IsIn vs r.var.0
     → level_in vs r.var.0 < level_of_row vs (rows (end_of r b)) → In m (reached vs rows (end_of r b)) → In m (reached vs rows n)
 reached-end [] rows n m r b is inside below h = absurd (omega arith)
 reached-end (v ∷ vs) rows n m r b is inside below h =

@@ -4,6 +4,7 @@ use Rattle.std.proofs.Common.{refl, rules}
 use Rattle.uvl_base.specs.declared.place.Place.{Place}
 use Rattle.uvl_base.specs.declared.fault.FaultKind.{FaultKind}
 use Rattle.uvl_lexer.specs.declared.token.Token.{Token}
+use Rattle.uvl_lexer.specs.TokenList.{IsTokenList}
 use Rattle.uvl_ast.specs.declared.file.File.{File}
 use Rattle.uvl_ast.specs.declared.feature.Feature.{Feature}
 use Rattle.uvl_ast.specs.Depth.{depth_of}
@@ -11,10 +12,12 @@ use Rattle.uvl_ast.specs.Members.{EachGroupHasMembers}
 use Rattle.uvl_ast.specs.Nesting.{EachValueNests}
 use Rattle.uvl_ast.specs.Rules.{EachRule}
 use Rattle.uvl_ast.specs.Nodes.{nodes_of}
+use Rattle.uvl_ast.specs.Texts.{EachTextIsQuotable}
 use Rattle.uvl_ast.specs.Operands.{right_operands}
 use Rattle.uvl_parser.specs.declared.fault.ParseFault.{ParseFault}
 use Rattle.uvl_parser.specs.declared.fault.ParseFault.TheVariants.{At, OutOfMemory}
 use Rattle.uvl_parser.specs.Parsing.{IsParsedAs, IsRefusedAt, OnFault}
+use Rattle.uvl_grammar.proofs.Quoted.{file_quoted}
 use Rattle.uvl_faults.proofs.Shallow.{IsShallow, file_shallow}
 use Rattle.uvl_parser.proofs.Once.{never_both}
 use Rattle.uvl_faults.proofs.Nodes.Trees.{file_few}
@@ -65,3 +68,7 @@ module _ (tokens : List Token) where
   pub nodes : (r : Result File ParseFault) → IfOk r (λ f. IsParsedAs tokens f) → IfOk r (EachRule (λ rule. nodes_of rule ≤ 8192))
   nodes (Ok f) told = file_few tokens f told.spelled told.unnamed
   nodes (Err fault) told = tt
+
+  pub texts : IsTokenList tokens → (r : Result File ParseFault) → IfOk r (λ f. IsParsedAs tokens f) → IfOk r (λ f. IfSome f.root EachTextIsQuotable)
+  texts list (Ok f) told = file_quoted tokens f list told.spelled
+  texts list (Err fault) told = tt

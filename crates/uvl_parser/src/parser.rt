@@ -11,6 +11,7 @@ ghost use Rattle.uvl_ast.specs.Nesting.{EachValueNests};
 ghost use Rattle.uvl_ast.specs.Nodes.{nodes_of};
 ghost use Rattle.uvl_ast.specs.Operands.{right_operands};
 ghost use Rattle.uvl_ast.specs.Rules.{EachRule};
+ghost use Rattle.uvl_ast.specs.Texts.{EachTextIsQuotable};
 ghost use Rattle.uvl_faults.specs.Named.{NoneNamed, IsFirstNamed};
 ghost use Rattle.uvl_parser.specs.Parsing.{IsParsedAs, IsFaultAt, IsRefusedAt, OnFault};
 ghost use Rattle.std.specs.Option.{unwrap_or};
@@ -30,9 +31,10 @@ use uvl_profile::Candidate;
 /// begins: for the named fault with the lowest number that is met there, or else for `Syntax`.
 /// Nothing but want of memory refuses a list that spells a file without named faults. Features of
 /// the file nest at most 64 deep, and each group has members. Lists and vectors nest at most 127
-/// deep in the value of an attribute: the 128th bracket is the feature's own. A rule has at most
-/// 8,192 nodes, and a node of it stands in the right operands of at most 516 operators `&`, `|`,
-/// `=>` and `<=>`: of one of each outside, and in each of 128 brackets and `!`.
+/// deep in the value of an attribute: the 128th bracket is the feature's own. Texts hold no single
+/// quote and no line break. A rule has at most 8,192 nodes, and a node of it stands in the right
+/// operands of at most 516 operators `&`, `|`, `=>` and `<=>`: of one of each outside, and in each
+/// of 128 brackets and `!`.
 pub fn parse(alloc: Global, tokens: &[Token]) -> Result<File, ParseFault>
     requires { IsTokenList tokens.now }
     ensures file { IfOk result (λ file. IsParsedAs tokens.now file) }
@@ -43,6 +45,7 @@ pub fn parse(alloc: Global, tokens: &[Token]) -> Result<File, ParseFault>
     ensures shallow { IfOk result (λ file. IfSome file.root (λ root. depth_of root ≤ most_depth)) }
     ensures members { IfOk result (λ file. IfSome file.root EachGroupHasMembers) }
     ensures nested { IfOk result (λ file. IfSome file.root (EachValueNests (most_nesting - 1))) }
+    ensures texts { IfOk result (λ file. IfSome file.root EachTextIsQuotable) }
     ensures nodes { IfOk result (EachRule (λ rule. nodes_of rule ≤ most_rule_nodes)) }
     ensures grouped { IfOk result (EachRule (λ rule. right_operands rule ≤ most_right_operands)) }
 {

@@ -1,5 +1,5 @@
 -- The clauses of a caller follow from those of reading.
-use Rattle.uvl_parser.proofs.Answers.{never_refused, never_read, shallow, members, nested, nodes, grouped}
+use Rattle.uvl_parser.proofs.Answers.{never_refused, never_read, shallow, members, nested, nodes, grouped, texts}
 use Rattle.uvl_parser.proofs.parser.parse.Goals as goal
 
 pub returns-clause-never_refused : goal.returns-clause-never_refused
@@ -22,3 +22,6 @@ returns-clause-grouped c = grouped c.args.tokens.now c.parse_tokens.result c.par
 
 pub returns-clause-nodes : goal.returns-clause-nodes
 returns-clause-nodes c = nodes c.args.tokens.now c.parse_tokens.result c.parse_tokens.ensures.file
+
+pub returns-clause-texts : goal.returns-clause-texts
+returns-clause-texts c = texts c.args.tokens.now c.requires c.parse_tokens.result c.parse_tokens.ensures.file
