@@ -3,7 +3,7 @@ ghost use Rattle.std.specs.Prelude.{ℕ, ◌+◌, ◌≤◌};
 ghost use Rattle.dd_apply.specs.Held.{HasBoth};
 
 use dd_apply::Kernel;
-use dd_store::{Handle, Var};
+use dd_store::{Handle, Refusal, Var};
 use std::alloc::Global;
 
 /// The diagrams of the clauses so far and of the clause that is read.
@@ -33,26 +33,30 @@ impl Conjunction {
         })
     }
 
-    /// The clause that is read with one more literal: the number of a variable, from 1 on, with its sign.
-    pub(crate) fn with_literal(self, alloc: Global, literal: i64) -> Option<Conjunction> {
+    /// The clause that is read with one more literal. A variable that isn't there is left out.
+    pub(crate) fn with_literal(
+        self,
+        alloc: Global,
+        variable: u32,
+        value: bool,
+    ) -> Result<Conjunction, Refusal> {
+        if variable >= self.kernel.variables() {
+            return Ok(self);
+        }
         let Conjunction {
             mut kernel,
             whole,
             clause,
         } = self;
-        let variable = u32::try_from(literal.unsigned_abs()).ok()?.checked_sub(1)?;
-        if variable >= kernel.variables() {
-            return None;
-        }
-        let no = kernel.constant(literal < 0).ok()?;
-        let yes = kernel.constant(literal > 0).ok()?;
-        let literal = kernel.node(alloc, Var(variable), &no, &yes).ok()?;
-        let longer = kernel.or(alloc, &clause, &literal).ok()?;
+        let no = kernel.constant(!value)?;
+        let yes = kernel.constant(value)?;
+        let literal = kernel.node(alloc, Var(variable), &no, &yes)?;
+        let longer = kernel.or(alloc, &clause, &literal)?;
         kernel.release(no);
         kernel.release(yes);
         kernel.release(literal);
         kernel.release(clause);
-        Some(Conjunction {
+        Ok(Conjunction {
             kernel,
             whole,
             clause: longer,
@@ -60,17 +64,17 @@ impl Conjunction {
     }
 
     /// The conjunction with the clause that is read, and a new clause without a literal.
-    pub(crate) fn with_clause(self, alloc: Global) -> Option<Conjunction> {
+    pub(crate) fn with_clause(self, alloc: Global) -> Result<Conjunction, Refusal> {
         let Conjunction {
             mut kernel,
             whole,
             clause,
         } = self;
-        let more = kernel.and(alloc, &whole, &clause).ok()?;
+        let more = kernel.and(alloc, &whole, &clause)?;
         kernel.release(whole);
         kernel.release(clause);
-        let clause = kernel.constant(false).ok()?;
-        Some(Conjunction {
+        let clause = kernel.constant(false)?;
+        Ok(Conjunction {
             kernel,
             whole: more,
             clause,

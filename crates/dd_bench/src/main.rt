@@ -36,10 +36,17 @@ fn nodes_of_conjunction(alloc: Global, text: &str, variables: u32, budget: u32) 
     let mut conjunction = Conjunction::new(alloc, variables, budget)?;
     for line in text.lines() {
         for word in line.split_whitespace() {
-            let literal = word.parse::<i64>().ok()?;
-            conjunction = conjunction.with_literal(alloc, literal)?;
+            let (variable, value) = literal_in(word)?;
+            conjunction = conjunction.with_literal(alloc, variable, value).ok()?;
         }
-        conjunction = conjunction.with_clause(alloc)?;
+        conjunction = conjunction.with_clause(alloc).ok()?;
     }
     Some(conjunction.nodes())
+}
+
+/// The variable that a word names, from 0 on, and its value.
+fn literal_in(word: &str) -> Option<(u32, bool)> {
+    let literal = word.parse::<i64>().ok()?;
+    let number = u32::try_from(literal.unsigned_abs()).ok()?;
+    Some((number.checked_sub(1)?, literal > 0))
 }
