@@ -52,6 +52,21 @@ impl Tally {
         }
     }
 
+    /// What is in scope in the file.
+    pub(crate) fn into_scope(self) -> Scope
+        ensures names { result.names ≡ self.names }
+        ensures depth { result.depth ≡ self.depth }
+        ensures rules { result.rules ≡ self.rules }
+        ensures nodes { result.nodes ≡ self.nodes }
+    {
+        Scope {
+            names: self.names,
+            depth: self.depth,
+            rules: self.rules,
+            nodes: self.nodes,
+        }
+    }
+
     /// Adds the feature that a line declares at a depth, unless something is wrong with the line.
     pub(crate) fn declare(
         &mut self,
@@ -60,9 +75,10 @@ impl Tally {
         depth: usize,
     ) -> Result<(), FileFault>
         requires { IsWithin self.old }
-        ensures found { IsFound (fault_of_declared (brought_of self.old) name.now (line_of (out-Feature line.now) depth))
-            result }
-        ensures brought { OnOk result (brought_of self.new ≡ together (brought_of self.old) (declared depth name.now)) }
+        ensures found { IsFound
+            (fault_of_declared (brought_of self.old) name.now (line_of (out-Feature line.now) depth)) result }
+        ensures brought { OnOk result
+            (brought_of self.new ≡ together (brought_of self.old) (declared depth name.now)) }
         ensures within { OnOk result (IsWithin self.new) }
         ensures shallow { OnOk result (depth ≤ most_depth) }
     {
@@ -105,9 +121,8 @@ impl Tally {
     ) -> Result<(), FileFault>
         requires within { IsWithin self.old }
         requires deep { 1 ≤ depth }
-        ensures found { IsFound
-            (fault_of_placing (placed_by scopes.now imports.now) (brought_of self.old) (line_of (out-Feature line.now) depth))
-            result }
+        ensures found { IsFound (fault_of_placing (placed_by scopes.now imports.now) (brought_of self.old)
+            (line_of (out-Feature line.now) depth)) result }
         ensures brought { OnOk result (brought_of self.new ≡ together (brought_of self.old)
             (placed_at (placed_by scopes.now imports.now) depth (out-Feature line.now).name.parts)) }
         ensures within { OnOk result (IsWithin self.new) }

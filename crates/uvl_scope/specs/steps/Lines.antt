@@ -30,7 +30,8 @@ fault_of_body before qualifier brought line = first_of (
     ∷ when (is_too_deep brought line) (finding TooDeep line.reference.place)
     ∷ when (has_known_name before brought) (finding DuplicateFeature line.reference.place)
     ∷ when (is_too_large before brought) (finding TooManyFeatures line.reference.place)
-    ∷ when (are_too_many (before.rules + brought.rules) (before.nodes + brought.nodes)) (finding TooManyRules line.reference.place)
+    ∷ when (are_too_many (before.rules + brought.rules) (before.nodes + brought.nodes))
+    (finding TooManyRules line.reference.place)
     ∷ []
     )
 
