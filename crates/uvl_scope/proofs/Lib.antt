@@ -21,3 +21,5 @@ mod LinesFit
 mod WithinLimits
 mod ScopesFit
 mod AnyNumbers
+mod NamesUnder
+mod BehindText
