@@ -1,8 +1,8 @@
 -- The keys of attributes, one after another.
-use Rattle.std.proofs.Common.{◌≡◌, ℕ, List, [], ◌∷◌, ◌++◌, map, refl, sym, ap, ◌∙◌, Option, Some, None}
+use Rattle.std.proofs.Common.{◌≡◌, ℕ, List, map, Option}
 use Rattle.uvl_ast.specs.declared.feature.Attribute.{Attribute}
 use Rattle.uvl_scope.specs.Firsts.{first_along}
-use Rattle.uvl_scope.specs.Keys.{Keyed, keyed, repeated_at, repeated_key}
+use Rattle.uvl_scope.specs.Keys.{keyed, repeated_at, repeated_key}
 use Rattle.uvl_scope.specs.steps.Keys.{IsKept, keys_of}
 
 -- the keys in front are in the index, where there is one, and no repetition is met among them
