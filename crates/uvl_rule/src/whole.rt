@@ -1,14 +1,19 @@
 //! A rule of a model, first by the quick way.
-ghost use Rattle.std.specs.Prelude.{◌≡◌, ℕ, Bool, IsTrue, IfOk, IfErr, OnErr};
+ghost use Rattle.std.specs.Prelude.{◌≡◌, ℕ, Bool, List, IsTrue, IfOk, IfErr, OnErr};
 ghost use Rattle.dd_store.specs.Changes.{Keeps};
 ghost use Rattle.dd_store.specs.Handles.{GainsHandle, KeepsHandles};
 ghost use Rattle.dd_store.specs.Table.{value_of};
 ghost use Rattle.uvl_functions.specs.Cause.{IsShortFor};
 ghost use Rattle.uvl_functions.specs.Functions.{rule_function};
 ghost use Rattle.uvl_functions.specs.Groups.{rule_groups};
-ghost use Rattle.uvl_functions.specs.Variables.{HasVariables};
+ghost use Rattle.uvl_functions.specs.Variables.{HasVariables, marks_under};
 ghost use Rattle.uvl_model.specs.Comparisons.{has_no_comparison};
+ghost use Rattle.uvl_model.specs.Constraints.{constraint_of};
+ghost use Rattle.uvl_model.specs.Heads.{heads_of_rows};
+ghost use Rattle.uvl_model.specs.Marks.{StandFor};
+ghost use Rattle.uvl_model.specs.Names.{feature_names};
 ghost use Rattle.uvl_model.specs.Rules.{IsRule};
+ghost use Rattle.uvl_semantics.specs.Holding.{holds_by};
 
 use crate::listed::listed_rule;
 use crate::quick::quick_rule;
@@ -35,6 +40,10 @@ pub fn compile_rule(
     requires rule { IsRule model.now rule.now }
     requires boolean { IsTrue (has_no_comparison rule.now) }
     ensures value { IfOk result (λ h. (a : ℕ → Bool) → value_of kernel.new h a ≡ rule_function map.now rule.now a) }
+    ensures meaning { IfOk result (λ h. (a : ℕ → Bool) (set : List (List ℕ)) →
+        StandFor (feature_names model.now) (marks_under map.now a) set →
+        value_of kernel.new h a
+        ≡ holds_by (heads_of_rows model.now) (constraint_of (feature_names model.now) rule.now) set) }
     ensures gained { IfOk result (GainsHandle kernel.old kernel.new) }
     ensures refused { OnErr result (KeepsHandles kernel.old kernel.new) }
     ensures keeps { Keeps kernel.old kernel.new }

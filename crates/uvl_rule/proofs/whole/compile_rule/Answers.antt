@@ -1,5 +1,5 @@
 -- What the second way is refused for is said of the table at the call, since each live handle is one of that time.
-use Rattle.std.proofs.Common.{◌≡◌, ℕ, List, Result, Ok, Err, IfErr, arith}
+use Rattle.std.proofs.Common.{ℕ, List, Result, Ok, Err, IfErr, arith}
 use Rattle.dd_store.specs.declared.refusal.Refusal.{Refusal}
 use Rattle.dd_store.specs.Changes.{Keeps}
 use Rattle.dd_store.specs.Size.{Function}
@@ -8,6 +8,7 @@ use Rattle.dd_store.proofs.ChangeLemmas.{keeps_then}
 use Rattle.uvl_functions.specs.Cause.{IsShortFor}
 use Rattle.uvl_functions.specs.Groups.{rule_groups}
 use Rattle.uvl_functions.proofs.ShortLemmas.{cause-again}
+use Rattle.uvl_rule.proofs.MeaningLemmas.{told-meaning}
 use Rattle.uvl_rule.proofs.whole.compile_rule.Goals as goal
 
 again : (t u : Table) (groups : List (List Function)) (result : Result ℕ Refusal) → Keeps t u → ((n : ℕ) → IsLive u n → IsLive t n)
@@ -29,3 +30,13 @@ pub returns-in-Err-OverBudget-clause-keeps : goal.returns-in-Err-OverBudget-clau
 returns-in-Err-OverBudget-clause-keeps c =
     keeps_then (kept c) c.listed_rule.ensures.keeps
     (λ n before after. let one = c.in-Err-OverBudget.ensures.refused.each n in let two = c.collect.ensures.handles.each n in omega arith)
+
+pub returns-in-Err-OverBudget-clause-meaning : goal.returns-in-Err-OverBudget-clause-meaning
+returns-in-Err-OverBudget-clause-meaning c =
+    told-meaning c.args.model.now c.args.map.now c.args.rule.now c.listed_rule.new.kernel c.listed_rule.result c.requires.rule c.requires.boolean
+    c.listed_rule.ensures.value
+
+pub returns-in_default-2-clause-meaning : goal.returns-in_default-2-clause-meaning
+returns-in_default-2-clause-meaning c =
+    told-meaning c.args.model.now c.args.map.now c.args.rule.now c.quick_rule.new.kernel c.quick_rule.result c.requires.rule c.requires.boolean
+    c.quick_rule.ensures.value
