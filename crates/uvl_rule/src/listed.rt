@@ -26,8 +26,8 @@ use uvl_model::Rule;
 /// variable and a comparison count as no.
 ///
 /// The way down the left operands is a loop, and only right operands are calls: a rule of a model has no node in more
-/// than 516 of them, and the frames of these calls together stay below a tenth of a stack of 8 MiB. While a right
-/// operand is made, the left operand beside it is held, and nothing else.
+/// than 516 of them, and each is three calls deep. While a right operand is made, the left operand beside it is held,
+/// and nothing else.
 #[cycle(rule)]
 pub fn listed_rule(
     kernel: &mut Kernel,
