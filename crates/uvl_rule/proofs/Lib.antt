@@ -1,0 +1,4 @@
+pub mod ClimbLemmas
+pub mod PartLemmas
+pub mod SpineLemmas
+pub mod ValueLemmas
