@@ -1,4 +1,5 @@
 pub mod ClimbLemmas
 pub mod PartLemmas
+pub mod RunLemmas
 pub mod SpineLemmas
 pub mod ValueLemmas

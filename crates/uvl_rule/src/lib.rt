@@ -4,6 +4,11 @@
 mod connective;
 mod leaf;
 mod listed;
+mod quick;
+mod run;
 mod spine;
+mod whole;
 
 pub use listed::listed_rule;
+pub use quick::quick_rule;
+pub use whole::compile_rule;
