@@ -1,0 +1,5 @@
+pub mod Among
+pub mod RowFunctions
+pub mod Trades
+pub mod HandleLemmas
+pub mod TreeLemmas
