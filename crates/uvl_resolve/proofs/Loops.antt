@@ -10,7 +10,8 @@ use Rattle.uvl_model.specs.Spelling.{numbered, size_of, size_of_members}
 use Rattle.uvl_placing.specs.Trees.{Branch, branch_of}
 use Rattle.uvl_resolve.specs.declared.rows.RowBuilder.{RowBuilder}
 use Rattle.uvl_resolve.specs.steps.Walk.{AddsTree, AddsGroup, AddsGroups, AddsMembers, HasRoom, GroupsFit, MembersFit, said_by_line, said_by_group, said_by_groups, said_by_members}
-use Rattle.uvl_resolve.proofs.Said.{declared, line_declares, group_says, groups_say, members_say, in_front_of, both_there, made_there}
+use Rattle.uvl_resolve.proofs.Said.{declared, line_declares, group_says, groups_say, members_say, in_front_of}
+use Rattle.uvl_resolve.proofs.Options.{both_there, made_there}
 use Rattle.uvl_resolve.proofs.Steps.{group_and_groups, tree_and_members, no_members_left}
 use Rattle.uvl_semantics.specs.Tree.{Tree, Groups, Members, feature, member, names_of, names_of_groups, names_of_members}
 

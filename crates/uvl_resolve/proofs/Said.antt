@@ -17,6 +17,7 @@ use Rattle.uvl_placing.specs.Options.{of_both, known}
 use Rattle.uvl_placing.specs.Trees.{Imports, Branch, tree_called, with_root, tree_placed, tree_of_names, members_of, groups_of, branch_of, tree_of_feature, branch_of_group, tree_of_line, branch_of_written}
 use Rattle.uvl_resolve.specs.Under.{tree_under, groups_under, members_under}
 use Rattle.uvl_resolve.specs.steps.Walk.{said_by_line, said_by_group, said_by_groups, said_by_members, said_by_file, said_by_names, branch_under, qualifiers_of}
+use Rattle.uvl_resolve.proofs.Options.{both_there, made_there}
 use Rattle.uvl_resolve.proofs.UnderTexts.{longer, under_longer}
 use Rattle.uvl_semantics.specs.Prefix.{prefixed}
 use Rattle.uvl_semantics.specs.Tree.{Tree, Groups, Members, feature, group, member, top_name}
@@ -130,19 +131,6 @@ members_say front loaded text line rest = swap (tree_of_line imports line) (memb
     swap None others = refl
     swap (Some tree) None = refl
     swap (Some tree) (Some others) = refl
-
--- both are there
-pub both_there : {A B C : Type 0} (make : A → B → C) (first : Option A) (second : Option B) (whole : C) → of_both make first second ≡ Some whole
-    → (a : A) × (b : B) × (first ≡ Some a) × (second ≡ Some b) × (whole ≡ make a b)
-both_there make None second whole is = absurd cc
-both_there make (Some a) None whole is = absurd cc
-both_there make (Some a) (Some b) whole is = (a, b, refl, refl, cc)
-
--- what is made of a value that is there
-pub made_there : {A B : Type 0} (make : A → B) (value : Option A) (whole : B) → option_map make value ≡ Some whole
-    → (a : A) × (value ≡ Some a) × (whole ≡ make a)
-made_there make None whole is = absurd cc
-made_there make (Some a) whole is = (a, refl, cc)
 
 -- as many trees as files
 trees_count : (trees : List (Option Tree)) (files : List Loaded) → length (trees_behind trees files) ≡ length trees + length files

@@ -9,7 +9,7 @@ use Rattle.uvl_ast.specs.declared.file.Import.{Import}
 use Rattle.uvl_placing.specs.Names.{qualifier_of, target_called}
 
 -- where the first that passes stands, by cases on the first of all
-position_next : {A : Type 0} (p : A → Bool) (x : A) (xs : List A)
+pub position_next : {A : Type 0} (p : A → Bool) (x : A) (xs : List A)
     → position p (x ∷ xs) ≡ cond (p x) (Some 0) (option_map suc (position p xs))
 position_next {A} p x xs = by (p x) refl
   where

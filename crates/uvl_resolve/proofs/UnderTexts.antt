@@ -1,9 +1,10 @@
--- Trees with texts in front of their names.
+-- Trees and constraints with texts in front of their names.
 use Rattle.std.proofs.Common.{◌≡◌, ℕ, List, [], ◌∷◌, ◌++◌, refl, sym, ap, ◌∙◌}
 use Rattle.std.proofs.lemmas.List.{append_assoc}
-use Rattle.uvl_semantics.specs.Prefix.{prefixed, prefixed_groups, prefixed_members, prefixed_head, prefixed_name}
+use Rattle.uvl_semantics.specs.Constraint.{Constraint, Quantity, selected, negation, conjunction, disjunction, implication, equivalence, comparison, literal, attribute, total, plus, minus, times}
+use Rattle.uvl_semantics.specs.Prefix.{prefixed, prefixed_groups, prefixed_members, prefixed_head, prefixed_name, prefixed_constraint, prefixed_quantity}
 use Rattle.uvl_semantics.specs.Tree.{Tree, Groups, Members, Head, feature, no_groups, group, no_members, member}
-use Rattle.uvl_resolve.specs.Under.{head_under, tree_under, groups_under, members_under}
+use Rattle.uvl_resolve.specs.Under.{head_under, tree_under, groups_under, members_under, constraint_under, quantity_under}
 
 mutual
   -- nothing is in front
@@ -52,3 +53,39 @@ mutual
   members_longer text qualifier (member tree others) =
       ap (λ (t : Tree). member t (members_under text (prefixed_members qualifier others))) (under_longer text qualifier tree)
       ∙ ap (member (tree_under (longer text qualifier) tree)) (members_longer text qualifier others)
+
+-- numbers and constraints
+quantity_longer : (text qualifier : List ℕ) (number : Quantity) → quantity_under text (prefixed_quantity qualifier number) ≡ quantity_under (longer text qualifier) number
+quantity_longer text qualifier (literal millionths) = refl
+quantity_longer text qualifier (attribute name key) = ap (λ (n : List ℕ). attribute n key) (name_longer text qualifier name)
+quantity_longer text qualifier (total top key) = ap (λ (n : List ℕ). total n key) (name_longer text qualifier top)
+quantity_longer text qualifier (plus left right) = rw (quantity_longer text qualifier left, quantity_longer text qualifier right) refl
+quantity_longer text qualifier (minus left right) = rw (quantity_longer text qualifier left, quantity_longer text qualifier right) refl
+quantity_longer text qualifier (times left right) = rw (quantity_longer text qualifier left, quantity_longer text qualifier right) refl
+
+pub constraint_longer : (text qualifier : List ℕ) (c : Constraint) → constraint_under text (prefixed_constraint qualifier c) ≡ constraint_under (longer text qualifier) c
+constraint_longer text qualifier (selected name) = ap selected (name_longer text qualifier name)
+constraint_longer text qualifier (negation operand) = ap negation (constraint_longer text qualifier operand)
+constraint_longer text qualifier (conjunction left right) = rw (constraint_longer text qualifier left, constraint_longer text qualifier right) refl
+constraint_longer text qualifier (disjunction left right) = rw (constraint_longer text qualifier left, constraint_longer text qualifier right) refl
+constraint_longer text qualifier (implication left right) = rw (constraint_longer text qualifier left, constraint_longer text qualifier right) refl
+constraint_longer text qualifier (equivalence left right) = rw (constraint_longer text qualifier left, constraint_longer text qualifier right) refl
+constraint_longer text qualifier (comparison how left right) = rw (quantity_longer text qualifier left, quantity_longer text qualifier right) refl
+
+-- nothing is in front of a constraint
+quantity_bare : (number : Quantity) → quantity_under [] number ≡ number
+quantity_bare (literal millionths) = refl
+quantity_bare (attribute name key) = refl
+quantity_bare (total top key) = refl
+quantity_bare (plus left right) = rw (quantity_bare left, quantity_bare right) refl
+quantity_bare (minus left right) = rw (quantity_bare left, quantity_bare right) refl
+quantity_bare (times left right) = rw (quantity_bare left, quantity_bare right) refl
+
+pub constraint_bare : (c : Constraint) → constraint_under [] c ≡ c
+constraint_bare (selected name) = refl
+constraint_bare (negation operand) = ap negation (constraint_bare operand)
+constraint_bare (conjunction left right) = rw (constraint_bare left, constraint_bare right) refl
+constraint_bare (disjunction left right) = rw (constraint_bare left, constraint_bare right) refl
+constraint_bare (implication left right) = rw (constraint_bare left, constraint_bare right) refl
+constraint_bare (equivalence left right) = rw (constraint_bare left, constraint_bare right) refl
+constraint_bare (comparison how left right) = rw (quantity_bare left, quantity_bare right) refl

@@ -3,11 +3,17 @@
 
 mod attributes;
 mod bounds;
+mod fault;
 mod features;
 mod laws;
 mod name;
+mod placements;
+mod qualifiers;
+mod resolving;
 mod rows;
 mod rule;
+mod rules;
 mod walk;
 
+pub use fault::ResolveFault;
 pub use laws::flat_keeps_products;

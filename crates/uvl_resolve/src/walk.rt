@@ -228,7 +228,7 @@ fn target_of_names(
 }
 
 /// The position of the file that a file calls so, whose import lines have these qualifiers.
-fn target_of(loaded: &Loaded, qualifiers: &NameIndex, qualifier: &str) -> Option<usize>
+pub(crate) fn target_of(loaded: &Loaded, qualifiers: &NameIndex, qualifier: &str) -> Option<usize>
     requires { qualifiers.now ≡ map qualifier_of loaded.now.file.imports }
     ensures { result ≡ target_called (chars qualifier.now) loaded.now.file.imports loaded.now.targets }
 {

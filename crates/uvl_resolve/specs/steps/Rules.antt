@@ -1,5 +1,6 @@
--- What the reading of a rule makes, node by node.
-use Rattle.std.specs.Prelude.{ℕ, ◌+◌, List, [], ◌∷◌, Option, Some, None, position, ◌≡◌}
+-- What the reading of a rule makes, node by node, and what made rules say.
+use Rattle.std.specs.Prelude.{◌≡◌, ℕ, ◌+◌, ◌<◌, ◌≤◌, List, [], ◌∷◌, ◌++◌, map, length, Option, Some, None, position, slice_get, IsTrue}
+use Rattle.std.specs.List.{All}
 use Rattle.std.specs.Option.{option_map}
 use Rattle.std.specs.Str.{bytes_eq}
 use Rattle.uvl_ast.specs.declared.expression.BinOp.{BinOp}
@@ -9,11 +10,20 @@ use Rattle.uvl_ast.specs.declared.expression.Expr.TheVariants as expr
 use Rattle.uvl_base.specs.declared.place.Place.{Place}
 use Rattle.uvl_ast.specs.declared.expression.Expr.TheOpen.{Expr-F}
 use Rattle.uvl_ast.specs.declared.expression.Expr.TheFolds.{fold-Expr}
+use Rattle.uvl_ast.specs.Nodes.{nodes_of}
+use Rattle.uvl_ast.specs.Operands.{right_operands}
+use Rattle.uvl_base.specs.Limits.{most_rule_nodes, most_right_operands}
 use Rattle.uvl_model.specs.declared.rule.Rule.{Rule}
 use Rattle.uvl_model.specs.declared.rule.Rule.TheVariants as rule
+use Rattle.uvl_model.specs.Comparisons.{has_no_comparison}
+use Rattle.uvl_model.specs.Constraints.{constraint_of}
+use Rattle.uvl_model.specs.Rules.{features_of}
+use Rattle.uvl_model.specs.Rules as rules
 use Rattle.uvl_model.specs.Spelling.{numbered}
 use Rattle.uvl_placing.specs.Names.{dotted}
+use Rattle.uvl_resolve.specs.Under.{constraint_under}
 use Rattle.uvl_resolve.specs.declared.rule.Pending.{Pending}
+use Rattle.uvl_semantics.specs.Constraint.{Constraint}
 
 -- the rule that an operator makes of two; those that compare and reckon make none
 abbrev pub joined_by : BinOp → Rule → Rule → Option Rule
@@ -58,3 +68,32 @@ IsMade made = (rule : Rule) × (made ≡ Some rule)
 -- an expression is no operator of two operands
 abbrev pub IsSingle : Expr → Type 0
 IsSingle e = (operator : BinOp) (left right : Expr) (place : Place) → e ≡ expr.Binary operator left right place → ⊥
+
+-- an expression is a rule of truths over features with these names, within the limits on rules
+pub record IsPlain (names : List (List ℕ)) (e : Expr) : Type 0 where
+  pub made : (offset : ℕ) → IsMade (made_of names offset e)
+  pub few : nodes_of e ≤ most_rule_nodes
+  pub shallow : right_operands e ≤ most_right_operands
+
+-- a rule without comparisons that names some of so many features, within the limits on rules
+pub record IsSmall (count : ℕ) (made : Rule) : Type 0 where
+  pub boolean : IsTrue (has_no_comparison made)
+  pub features : All (λ f. f.0 < count) (features_of made)
+  pub few : rules.nodes_of made ≤ most_rule_nodes
+  pub shallow : rules.right_operands made ≤ most_right_operands
+
+-- the names stand among all names from the offset on, with a text in front of each
+abbrev pub StandAt : List (List ℕ) → ℕ → List ℕ → List (List ℕ) → Type 0
+StandAt all offset text names =
+    (k : ℕ) (name : List ℕ) → slice_get names k ≡ Some name → slice_get all (offset + k) ≡ Some (text ++ name)
+
+-- Rules are added that say these constraints, wherever the names stand from the offset on with a text in front.
+pub record Says (names : List (List ℕ)) (offset : ℕ) (old new : List Rule) (constraints : Option (List Constraint)) :
+    Type 0 where
+  pub added : List Rule
+  pub behind : new ≡ old ++ added
+  pub said : List Constraint
+  pub are : constraints ≡ Some said
+  pub read : (all : List (List ℕ)) (text : List ℕ) → StandAt all offset text names
+      → map (constraint_of all) added ≡ map (constraint_under text) said
+  pub small : All (IsSmall (offset + length names)) added

@@ -1,0 +1,129 @@
+-- An expression without numbers whose references are known is made a rule.
+use Rattle.std.proofs.Common.{◌≡◌, ℕ, suc, ◌+◌, ◌<◌, List, [], ◌∷◌, ◌++◌, length, Option, Some, None, Bool, true, false, not, cond, refl, sym, ap, ◌∙◌, subst, arith}
+use Rattle.std.specs.Prelude.{position, ◌||◌, nat_lt}
+use Rattle.std.specs.List.{list_any, position_or_len}
+use Rattle.std.specs.Option.{option_map, option_or}
+use Rattle.std.specs.Str.{bytes_eq}
+use Rattle.std.proofs.lemmas.Bool.{or_parts, false≢true, not-false}
+use Rattle.uvl_ast.specs.declared.expression.BinOp.{BinOp}
+use Rattle.uvl_ast.specs.declared.expression.BinOp.TheVariants as op
+use Rattle.uvl_ast.specs.declared.expression.Expr.{Expr, roll-Expr}
+use Rattle.uvl_ast.specs.declared.expression.Expr.TheOpen.{Expr-F}
+use Rattle.uvl_ast.specs.declared.expression.Expr.TheFolds.{fold-roll-Expr, ind-Expr, map-Expr}
+use Rattle.uvl_ast.specs.declared.names.Ref.{Ref}
+use Rattle.uvl_base.specs.declared.place.Place.{Place}
+use Rattle.uvl_model.specs.declared.rule.Rule.{Rule}
+use Rattle.uvl_model.specs.declared.rule.Rule.TheVariants as rule
+use Rattle.uvl_model.specs.Spelling.{numbered}
+use Rattle.uvl_placing.specs.Names.{dotted}
+use Rattle.uvl_resolve.specs.steps.Rules.{joined, joined_by, made_of, made_with, IsMade}
+use Rattle.uvl_resolve.proofs.Targets.{position_next}
+use Rattle.uvl_scope.specs.RuleFaults.{unknown_place}
+use Rattle.uvl_scope.specs.Rules.{has_numbers, joins_truths, references_at, references_in, speaks_of_numbers}
+use Rattle.uvl_resolve.proofs.Unknown.{unknown_append}
+use Rattle.uvl_semantics.specs.Product.{has}
+
+module _ (names : List (List ℕ)) (offset : ℕ) where
+  abbrev IsReadable : Expr → Type 0
+  IsReadable e = has_numbers e ≡ false → unknown_place names (references_in e true) ≡ None → IsMade (made_of names offset e)
+
+  abbrev ReadableExpr : Type 0
+  ReadableExpr = (e : Expr) × IsReadable e
+
+  made_at : (x : Expr-F Expr) → made_of names offset (roll-Expr x) ≡ made_with names offset (map-Expr Expr (Option Rule) (made_of names offset) x)
+  made_at = fold-roll-Expr (Option Rule) (made_with names offset)
+
+  numbers_at : (x : Expr-F Expr) → has_numbers (roll-Expr x) ≡ speaks_of_numbers (map-Expr Expr Bool has_numbers x)
+  numbers_at = fold-roll-Expr Bool speaks_of_numbers
+
+  references_here : (x : Expr-F Expr) (boolean : Bool)
+      → references_in (roll-Expr x) boolean ≡ references_at (map-Expr Expr (Bool → List Ref) references_in x) boolean
+  references_here x boolean = ap (λ (f : Bool → List Ref). f boolean) (fold-roll-Expr (Bool → List Ref) references_at x)
+
+  -- something is made of what is made
+  made_from : {A : Type 0} (make : A → Rule) (found : Option A) → ((x : A) × (found ≡ Some x)) → IsMade (option_map make found)
+  made_from make found there = (make there.0, ap (option_map make) there.1)
+
+  is_made : (whole made : Option Rule) → whole ≡ made → IsMade made → IsMade whole
+  is_made whole made e there = (there.0, e ∙ there.1)
+
+  -- a name that is there has a place
+  place_there : (all : List (List ℕ)) (name : List ℕ) → has all name ≡ true → (k : ℕ) × (position (bytes_eq name) all ≡ Some k)
+  place_there [] name h = absurd (false≢true h)
+  place_there (first ∷ all) name h = by (λ k. place_there all name k) (bytes_eq name first) refl
+    where
+      by : (has all name ≡ true → (k : ℕ) × (position (bytes_eq name) all ≡ Some k)) → (b : Bool) → bytes_eq name first ≡ b
+          → (k : ℕ) × (position (bytes_eq name) (first ∷ all) ≡ Some k)
+      by behind true e = (0, position_next (bytes_eq name) first all ∙ ap (λ (t : Bool). cond t (Some 0) (option_map suc (position (bytes_eq name) all))) e)
+      by behind false e =
+          let rest = behind (sym (ap (λ (t : Bool). t || has all name) e) ∙ h) in (
+            suc rest.0,
+            position_next (bytes_eq name) first all
+                ∙ ap (λ (t : Bool). cond t (Some 0) (option_map suc (position (bytes_eq name) all))) e ∙ ap (option_map suc) rest.1,
+          )
+
+  -- a reference that isn't unknown is known
+  known_one : (reference : Ref) → unknown_place names (reference ∷ []) ≡ None → has names (dotted reference.parts) ≡ true
+  known_one reference none = by (has names (dotted reference.parts)) refl
+    where
+      by : (b : Bool) → has names (dotted reference.parts) ≡ b → has names (dotted reference.parts) ≡ true
+      by true e = e
+      by false e =
+          let found : unknown_place names (reference ∷ []) ≡ Some reference.place =
+          ap (λ (t : Bool). option_map (λ (r : Ref). r.place) (cond (not t) (Some reference) None)) e in
+          let both : None ≡ Some reference.place = sym none ∙ found in
+          absurd cc
+
+  none_both : (front rest : List Ref) → unknown_place names (front ++ rest) ≡ None → (unknown_place names front ≡ None) × (unknown_place names rest ≡ None)
+  none_both front rest none = parts (unknown_place names front) (unknown_place names rest) (sym (unknown_append names front rest) ∙ none)
+    where
+      parts : (a b : Option Place) → option_or a b ≡ None → (a ≡ None) × (b ≡ None)
+      parts None b h = (refl, h)
+      parts (Some a) b h = absurd cc
+
+  joins_made : (o : BinOp) (l r : Rule) → joins_truths o ≡ true → IsMade (joined_by o l r)
+  joins_made op.And l r h = (_, refl)
+  joins_made op.Or l r h = (_, refl)
+  joins_made op.Implies l r h = (_, refl)
+  joins_made op.Iff l r h = (_, refl)
+  joins_made op.Equal l r h = absurd (false≢true h)
+  joins_made op.Differs l r h = absurd (false≢true h)
+  joins_made op.Less l r h = absurd (false≢true h)
+  joins_made op.AtMost l r h = absurd (false≢true h)
+  joins_made op.Greater l r h = absurd (false≢true h)
+  joins_made op.AtLeast l r h = absurd (false≢true h)
+  joins_made op.Plus l r h = absurd (false≢true h)
+  joins_made op.Minus l r h = absurd (false≢true h)
+  joins_made op.Times l r h = absurd (false≢true h)
+
+  binary_made : (o : BinOp) (left right : ReadableExpr) (place : Place) → IsReadable (roll-Expr (Expr-F.Binary o left.0 right.0 place))
+  binary_made o left right place no_numbers known =
+      let x : Expr-F Expr = Expr-F.Binary o left.0 right.0 place in
+      let parts = or_parts (not (joins_truths o) || has_numbers left.0) (has_numbers right.0) (sym (numbers_at x) ∙ no_numbers) in
+      let front = or_parts (not (joins_truths o)) (has_numbers left.0) parts.0 in
+      let joins : joins_truths o ≡ true = not-false (joins_truths o) front.0 in
+      let all : unknown_place names (references_in left.0 true ++ references_in right.0 true) ≡ None =
+      ap (λ (b : Bool). unknown_place names (references_in left.0 b ++ references_in right.0 b)) (sym joins)
+      ∙ sym (ap (unknown_place names) (references_here x true)) ∙ known in
+      let both = none_both (references_in left.0 true) (references_in right.0 true) all in
+      let l = left.1 front.1 both.0 in
+      let r = right.1 parts.1 both.1 in
+      let made = joins_made o l.0 r.0 joins in
+      (made.0, made_at x ∙ ap (λ (a : Option Rule). joined o a (made_of names offset right.0)) l.1 ∙ ap (joined o (Some l.0)) r.1 ∙ made.1)
+
+  node : (y : Expr-F ReadableExpr) → IsReadable (roll-Expr (map-Expr ReadableExpr Expr (λ e. e.0) y))
+  node (Expr-F.Number value place) no_numbers known = absurd (false≢true (sym no_numbers ∙ numbers_at (Expr-F.Number value place)))
+  node (Expr-F.Name reference) no_numbers known =
+      let x : Expr-F Expr = Expr-F.Name reference in
+      let there = place_there names (dotted reference.parts) (known_one reference (sym (ap (unknown_place names) (references_here x true)) ∙ known)) in
+      let made = made_from (λ (k : ℕ). rule.Feature (numbered (offset + k))) (position (bytes_eq (dotted reference.parts)) names) there in
+      is_made (made_of names offset (roll-Expr x)) _ (made_at x) made
+  node (Expr-F.Sum key place) no_numbers known = absurd (false≢true (sym no_numbers ∙ numbers_at (Expr-F.Sum key place)))
+  node (Expr-F.Not operand place) no_numbers known =
+      let x : Expr-F Expr = Expr-F.Not operand.0 place in
+      let below = operand.1 (sym (numbers_at x) ∙ no_numbers) (sym (ap (unknown_place names) (references_here x true)) ∙ known) in
+      is_made (made_of names offset (roll-Expr x)) _ (made_at x) (made_from (λ (r : Rule). rule.Not r) (made_of names offset operand.0) below)
+  node (Expr-F.Binary operator left right place) no_numbers known = binary_made operator left right place no_numbers known
+
+  pub readable : (e : Expr) → IsReadable e
+  readable = ind-Expr IsReadable (λ x y is. subst (λ (z : Expr-F Expr). IsReadable (roll-Expr z)) is (node y))
