@@ -1,4 +1,5 @@
 pub mod Under
 pub mod Flat
+pub mod Faults
 pub mod Laws
 pub mod steps

@@ -3,11 +3,15 @@
 
 mod attributes;
 mod bounds;
+mod fault;
 mod features;
 mod laws;
 mod name;
+mod resolving;
 mod rows;
 mod rule;
 mod walk;
 
+pub use fault::ResolveFault;
 pub use laws::flat_keeps_products;
+pub use resolving::resolve;
