@@ -1,1 +1,5 @@
--- Nothing is shared.
+pub mod Few
+pub mod Placed
+pub mod ShortLemmas
+pub mod TableLemmas
+pub mod LiteralLemmas

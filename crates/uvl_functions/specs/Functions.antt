@@ -1,5 +1,5 @@
 -- What a model says, as Boolean functions of its variables. Variables of other models have no say.
-use Rattle.std.specs.Prelude.{ℕ, ◌==◌, Bool, not, ◌&&◌, nat_le, List, []}
+use Rattle.std.specs.Prelude.{◌==◌, not, ◌&&◌, nat_le, List, []}
 use Rattle.std.specs.List.{list_all}
 use Rattle.dd_store.specs.declared.row.Var.{Var}
 use Rattle.dd_store.specs.Size.{Function}

@@ -34,8 +34,8 @@ abbrev pub rules_groups : List Var → Rows → (front rules : List Rule) → Li
 rules_groups vars rows front [] = []
 rules_groups vars rows front (rule ∷ rules) =
     map (λ group.
-        group ++ model_function vars rows.groups front ∷ model_function vars rows.groups (front ++ rule ∷ []) ∷ [])
-        (rule_groups vars rule)
+    group ++ model_function vars rows.groups front ∷ model_function vars rows.groups (front ++ rule ∷ []) ∷ [])
+    (rule_groups vars rule)
     ++ rules_groups vars rows (front ++ rule ∷ []) rules
 
 -- the groups of `compile`: those of the tree, and those of the rules in their order

@@ -4,5 +4,6 @@ pub mod RuleParts
 pub mod Groups
 pub mod Enough
 pub mod Cause
+pub mod Trade
 pub mod Placing
 pub mod Laws
