@@ -6,4 +6,4 @@ mod with_diagram;
 
 pub use compiling::compile;
 pub use with_diagram::Compiled;
-pub use uvl_functions::{Names, PlaceRefusal, VarMap};
+pub use uvl_functions::{Names, PlaceRefusal, VarMap, enough_is_enough};

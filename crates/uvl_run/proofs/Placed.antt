@@ -11,7 +11,9 @@ use Rattle.dd_store.specs.Table.{Table, handles_on}
 use Rattle.dd_store.specs.declared.refusal.Refusal.{Refusal}
 use Rattle.dd_store.specs.declared.refusal.Refusal.TheVariants.{OverBudget, OutOfMemory}
 use Rattle.uvl_functions.specs.Cause.{IsShortFor}
+use Rattle.uvl_functions.specs.Enough.{enough}
 use Rattle.uvl_functions.specs.Groups.{compile_groups}
+use Rattle.uvl_functions.specs.Laws.{EnoughIsEnough}
 use Rattle.uvl_functions.specs.Placing.{with_name, with_names, AreNamed, AddsVariables}
 use Rattle.uvl_functions.specs.Variables.{HasVariables}
 use Rattle.uvl_model.specs.Laws.{RowsGiveNames}
@@ -109,11 +111,11 @@ named_in_order names vars distinct named k within =
 
 -- A table in which a model is placed, and which had no variable and no live handle, has them in document order: so what
 -- compiling lacks there is told of this order.
-pub short_in_order : RowsGiveNames → (rows : Rows) → IsSound rows → (before t : Table) (none names : List (List ℕ)) (vars : List Var) (refusal : Refusal)
+pub short_in_order : RowsGiveNames → EnoughIsEnough → (rows : Rows) → IsSound rows → (before t : Table) (none names : List (List ℕ)) (vars : List Var) (refusal : Refusal)
     → before.order ≡ [] → ((n : ℕ) → handles_on before n ≡ 0) → none ≡ [] → names ≡ with_names none (feature_names rows) → AreNamed names vars (feature_names rows)
     → length names ≡ length t.order → AddsVariables before t → IsShortFor t (compile_groups vars rows) refusal → IsCauseFor rows before.budget refusal
-short_in_order law rows sound before t none names vars OutOfMemory empty idle fresh placed named as_many adds cause = tt
-short_in_order law rows sound before t none names vars (OverBudget nodes roots) empty idle fresh placed named as_many adds cause =
+short_in_order law bound rows sound before t none names vars OutOfMemory empty idle fresh placed named as_many adds cause = tt
+short_in_order law bound rows sound before t none names vars (OverBudget nodes roots) empty idle fresh placed named as_many adds cause =
     let are : names ≡ feature_names rows = placed_names law rows sound names (placed ∙ ap (λ (ns : List (List ℕ)). with_names ns (feature_names rows)) fresh) in
     let count : length names ≡ length rows.features = ap length are ∙ length-map rows.features (λ row. row.name) in
     let start : length before.order ≡ 0 = ap length empty in
@@ -125,7 +127,11 @@ short_in_order law rows sound before t none names vars (OverBudget nodes roots) 
     let map_is : vars ≡ main_variables rows = in_order vars rows.features even (named_in_order names vars differ own) in
     let held : HasHeld t [] = λ n live. let quiet = adds.handles.each n in let zero_live = idle n in absurd (omega arith) in
     let budget : t.budget ≡ before.budget = adds.nodes.budget in
+    let short = cause [] held in
+    let below : t.budget < enough (length t.order) = bound t.order vars rows t.budget [] sound (omega arith) short in
     let P : List Var → Type 0 = λ o. IsShort o t.budget [] (compile_groups vars rows) in
     let Q : List Var → Type 0 = λ vs. IsShort (main_variables rows) t.budget [] (compile_groups vs rows) in
     let R : ℕ → Type 0 = λ n. IsShort (main_variables rows) n [] (compile_groups (main_variables rows) rows) in
-    subst R budget (subst Q map_is (subst P order (cause [] held)))
+    let E : ℕ → Type 0 = λ n. t.budget < enough n in
+    let F : ℕ → Type 0 = λ n. n < enough (length rows.features) in
+    record { few = subst F budget (subst E size below); short = subst R budget (subst Q map_is (subst P order short)) }

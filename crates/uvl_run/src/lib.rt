@@ -11,6 +11,6 @@ mod status;
 mod top;
 
 pub use in_memory::run_in_memory;
-pub use laws::every_main_file_is_loaded_once;
+pub use laws::{every_main_file_is_loaded_once, nine_features_are_never_too_many};
 pub use status::Status;
 pub use top::run;

@@ -22,7 +22,7 @@ use dd_apply::Kernel;
 use dd_store::{Refusal, Var};
 use std::alloc::Global;
 use uvl_base::Name;
-use uvl_compile::{Compiled, Names, PlaceRefusal, compile};
+use uvl_compile::{Compiled, Names, PlaceRefusal, compile, enough_is_enough};
 use uvl_lines::{AnswerFault, Answerer};
 use uvl_model::{FeatureNo, Model, marks_give_products, products_are_sets, rows_give_names};
 use uvl_outside::Files;
@@ -117,8 +117,9 @@ fn compiled(alloc: Global, kernel: &mut Kernel, model: Model) -> Result<Compiled
         (λ compiled. IsCompiled compiled.model kernel.new compiled.map compiled.products) }
     ensures cause { IfErr result (IsCauseFor model kernel.old.budget) }
 {
-    // A law, and that the model is sound: they are facts for the proof.
+    // Laws, and that the model is sound: they are facts for the proof.
     rows_give_names();
+    enough_is_enough();
     model.features();
     let mut names = Names::new(alloc);
     let map = match names.place(kernel, alloc, &model) {

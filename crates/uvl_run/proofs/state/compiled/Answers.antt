@@ -16,5 +16,5 @@ pub returns-in_err-products-clause-cause : goal.returns-in_err-products-clause-c
 returns-in_err-products-clause-cause c =
     let p = err_from_is_err_and c.from_residual.result c.from_residual.ensures.1 in
     let placed = c.in-Ok.ensures in
-    rw (p.1, p.2) (short_in_order c.rows_give_names.ensures c.args.model c.features.ensures.sound c.args.kernel.now c.place.new.kernel _ _ c.in-Ok.map c.in_err-products.field-0.0
+    rw (p.1, p.2) (short_in_order c.rows_give_names.ensures c.enough_is_enough.ensures c.args.model c.features.ensures.sound c.args.kernel.now c.place.new.kernel _ _ c.in-Ok.map c.in_err-products.field-0.0
     c.requires.empty c.requires.none_live c.new-names.ensures placed.names placed.named placed.as_many placed.adds c.in_err-products.ensures.cause)

@@ -14,7 +14,7 @@ pub returns-in-Err-OverBudget-clause-answers : goal.returns-in-Err-OverBudget-cl
 unfolding budget_line
 returns-in-Err-OverBudget-clause-answers g c = λ words path named loaded.
     let few = rw c.in-Err-OverBudget.field-0-is at c.in-Err-OverBudget.ensures.cause in
-    let is : IsShortFor loaded.files c.args.budget = record { rows = c.args.model; flat = loaded.flat; short = few } in
+    let is : IsShortFor loaded.files c.args.budget = record { rows = c.args.model; flat = loaded.flat; of_rows = few } in
     short words _ _ _ _ _ _ _ _ path c.args.budget loaded.files c.write_line.result named loaded.loads is c.write_line.ensures
 
 pub returns-in-Err-OutOfMemory-clause-answers : goal.returns-in-Err-OutOfMemory-clause-answers
