@@ -28,7 +28,7 @@ unloaded contents main found = record {
     alone : (other : ModelFault) → HasFault contents main other → other ≡ found.fault
     alone other (in_loading first) = found.one other first
     alone other (in_set files loads first) = absurd (found.no_set files loads)
-    alone other (not_built files loads open is) = absurd (found.no_set files loads)
+    alone other (not_built files loads unready is) = absurd (found.no_set files loads)
 
 module _ (contents : Contents) (main : List ℕ) (set : HasSet contents main) where
   -- what holds of a set that loads holds of the one set
@@ -47,7 +47,7 @@ module _ (contents : Contents) (main : List ℕ) (set : HasSet contents main) wh
       alone : (other : ModelFault) → HasFault contents main other → other ≡ found.fault
       alone other (in_loading first) = absurd (set.no_fault other first)
       alone other (in_set files loads first) = found.one other (of_set (λ fs. scope.HasFirstFault fs other) files loads first)
-      alone other (not_built files loads open is) = absurd (found.built (of_set IsNotBuilt files loads open))
+      alone other (not_built files loads unready is) = absurd (found.built (of_set IsNotBuilt files loads unready))
 
   -- nothing is wrong in the set
   fine : IsFine set.files → IsOneSet contents main
@@ -61,7 +61,7 @@ module _ (contents : Contents) (main : List ℕ) (set : HasSet contents main) wh
       none : (fault : ModelFault) → HasFault contents main fault → ⊥
       none fault (in_loading first) = set.no_fault fault first
       none fault (in_set files loads first) = found.no_fault fault (of_set (λ fs. scope.HasFirstFault fs fault) files loads first)
-      none fault (not_built files loads open is) = found.built (of_set IsNotBuilt files loads open)
+      none fault (not_built files loads unready is) = found.built (of_set IsNotBuilt files loads unready)
 
   -- a rule of the set speaks of numbers
   unbuilt : IsOpen set.files → law.HasOneFault contents main
@@ -75,7 +75,7 @@ module _ (contents : Contents) (main : List ℕ) (set : HasSet contents main) wh
       alone : (other : ModelFault) → HasFault contents main other → other ≡ fault_in main first_place NotBuilt
       alone other (in_loading first) = absurd (set.no_fault other first)
       alone other (in_set files loads first) = absurd (found.no_fault other (of_set (λ fs. scope.HasFirstFault fs other) files loads first))
-      alone other (not_built files loads open is) = is
+      alone other (not_built files loads unready is) = is
 
   of_answer : EachSetHasOneAnswer → IsOneSet contents main ⊎ law.HasOneFault contents main
   of_answer answers = elim (answers set.files) [

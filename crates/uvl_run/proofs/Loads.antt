@@ -28,10 +28,10 @@ in_resolution (Some contents) path files fault loads first = in_set files loads 
 
 -- and what isn't built yet
 unbuilt : (told : Option Contents) (path : List ℕ) (files : List Loaded) (met : LoadFault) → LoadsAs told path files → resolution.IsCauseOf files resolving.NotBuilt → IsNotBuiltIn path met → IsCauseOf told path met
-unbuilt None path files (Model fault) loads open is = tt
-unbuilt (Some contents) path files (Model fault) loads open is = not_built files loads open is
-unbuilt told path files ReadFault loads open is = absurd is
-unbuilt told path files OutOfMemory loads open is = tt
+unbuilt None path files (Model fault) loads unready is = tt
+unbuilt (Some contents) path files (Model fault) loads unready is = not_built files loads unready is
+unbuilt told path files ReadFault loads unready is = absurd is
+unbuilt told path files OutOfMemory loads unready is = tt
 
 pub cause_of_resolution : (told : Option Contents) (path : List ℕ) (files : List Loaded) (fault : ResolveFault) (met : LoadFault) → LoadsAs told path files → resolution.IsCauseOf files fault
     → IsFaultOf path fault met → IsCauseOf told path met

@@ -83,7 +83,7 @@ numbered_from n (v ∷ vs) [] even each = absurd (omega arith)
 numbered_from n (v ∷ vs) (e ∷ es) even each =
     let first : v ≡ record { 0 = n } = same_Some v _ (each 0 (omega arith)) ∙ ap (λ (m : ℕ). record { 0 = m }) (omega arith) in
     let rest : (k : ℕ) → k < length vs → slice_get vs k ≡ Some (record { 0 = n + 1 + k }) = λ k within.
-        each (suc k) (omega arith) ∙ ap (λ (m : ℕ). Some (record { 0 = m })) (omega arith) in
+    each (suc k) (omega arith) ∙ ap (λ (m : ℕ). Some (record { 0 = m })) (omega arith) in
     ap (λ (w : Var). w ∷ vs) first ∙ ap (λ (ws : List Var). record { 0 = n } ∷ ws) (numbered_from (n + 1) vs es (omega arith) rest)
 
 -- so where all do, they stand in the order of the elements
@@ -97,7 +97,7 @@ named_in_order names vars distinct named k within =
     let w = get_or vars k (record { 0 = k }) in
     let at : slice_get vars k ≡ Some w = slice_get-get_or vars k (record { 0 = k }) within in
     let both : option_map (λ (v : Var). slice_get names v.0) (slice_get vars k) ≡ option_map (λ (name : List ℕ). Some name) (slice_get names k) =
-        sym (slice_get-map (λ (v : Var). slice_get names v.0) vars k) ∙ ap (λ (os : List (Option (List ℕ))). slice_get os k) named ∙ slice_get-map (λ (name : List ℕ). Some name) names k in
+    sym (slice_get-map (λ (v : Var). slice_get names v.0) vars k) ∙ ap (λ (os : List (Option (List ℕ))). slice_get os k) named ∙ slice_get-map (λ (name : List ℕ). Some name) names k in
     at ∙ ap Some (same_variable w (by w (slice_get names k) refl (sym (ap (option_map (λ (v : Var). slice_get names v.0)) at) ∙ both)))
   where
     by : (w : Var) (o : Option (List ℕ)) → slice_get names k ≡ o → Some (slice_get names w.0) ≡ option_map (λ (name : List ℕ). Some name) o → w.0 ≡ k

@@ -3,7 +3,7 @@ ghost use Rattle.std.specs.Prelude.{IfOk, IfErr, ◌≡◌};
 ghost use Rattle.uvl_imports.specs.Loading.{load_failed};
 ghost use Rattle.uvl_model.specs.Comparisons.{HaveNoComparison};
 ghost use Rattle.uvl_outside.specs.Faults.{Counts};
-ghost use Rattle.uvl_run.specs.steps.Loads.{IsLoaded, IsCauseOf, IsFaultOf};
+ghost use Rattle.uvl_run.specs.steps.Loads.{IsLoaded, IsCauseOf, IsFaultOf, IsNotBuiltIn};
 
 use std::alloc::Global;
 use uvl_base::{FaultKind, ModelFault, Place, Text};

@@ -15,7 +15,10 @@ fn expect_values(rt: &impl Abort, kernel: &Kernel, handle: &Handle, rows: &[(&[b
 {
     for (assignment, value) in rows {
         assert!(rt; assignment.len() == kernel.variables() as usize);
-        assert!(rt; kernel.value(handle, assignment) == *value, "{assignment:?}");
+        assert!(rt;
+            kernel.value(handle, assignment) == *value,
+            "{assignment:?}"
+        );
     }
 }
 

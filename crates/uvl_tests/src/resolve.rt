@@ -114,10 +114,7 @@ const SETS: [(&[Source], usize, usize, &str); 12] = [
     ),
     // a file that is imported and not placed adds nothing
     (
-        &[
-            ("m.uvl", "imports\n\tradio\nfeatures\n\tCar\n"),
-            RADIO,
-        ],
+        &[("m.uvl", "imports\n\tradio\nfeatures\n\tCar\n"), RADIO],
         1,
         0,
         "",
@@ -178,7 +175,10 @@ const SETS: [(&[Source], usize, usize, &str); 12] = [
         "m.uvl:6:4 E30 BodyOnPlacedImport",
     ),
     (
-        &[("m.uvl", "features\n\tCar {Price 3}\nconstraints\n\tCar.Price < 4\n")],
+        &[(
+            "m.uvl",
+            "features\n\tCar {Price 3}\nconstraints\n\tCar.Price < 4\n",
+        )],
         0,
         0,
         "not built",

@@ -20,7 +20,8 @@ type Failing<'a> = [&'a [u64]; 3];
 const NEVER: Failing<'static> = [&[], &[], &[]];
 
 /// A model whose products take more than sixteen nodes.
-const WIDE: &[u8] = b"features\n\tA\n\t\talternative\n\t\t\tB\n\t\t\tC\n\t\t\tD\n\t\t\tE\n\t\t\tF\n\t\t\tG\n\t\t\tH\n\t\t\tI\n\t\t\tJ\n\t\t\tK\n";
+const WIDE: &[u8] =
+    b"features\n\tA\n\t\talternative\n\t\t\tB\n\t\t\tC\n\t\t\tD\n\t\t\tE\n\t\t\tF\n\t\t\tG\n\t\t\tH\n\t\t\tI\n\t\t\tJ\n\t\t\tK\n";
 
 /// A run over files of which `thin.uvl` and `wide.uvl` are models, `numbers.uvl` is none yet, and `in.uvl` imports
 /// a file with a fault, by input in pieces of these sizes. What is written comes into the buffer.
@@ -35,7 +36,11 @@ fn run_with(
     let mut files = MemFiles::new(alloc, fail[0])?;
     files.add(alloc, "thin.uvl", THIN.as_bytes())?;
     files.add(alloc, "wide.uvl", WIDE)?;
-    files.add(alloc, "numbers.uvl", b"features\n\tA\nconstraints\n\t1 < 2\n")?;
+    files.add(
+        alloc,
+        "numbers.uvl",
+        b"features\n\tA\nconstraints\n\t1 < 2\n",
+    )?;
     files.add(alloc, "in.uvl", b"imports\n\tparts\nfeatures\n\tA\n")?;
     files.add(alloc, "parts.uvl", b"features\n\tA\n\t\tor\n\t\t\tA\n")?;
     let mut input = MemSource::new(alloc, script, sizes, fail[1])?;
@@ -281,11 +286,7 @@ const FILES: [(&[u8], Status, &[u8]); 11] = [
         REPLIES,
     ),
     (b"", Status::Model, b"fault m.uvl:1:1 E28 MissingFeatures\n"),
-    (
-        b"features\n\tA {constraints []}\n",
-        Status::Done,
-        UNKNOWN,
-    ),
+    (b"features\n\tA {constraints []}\n", Status::Done, UNKNOWN),
     (
         b"features\n\tA\n\t\toptional\n\t\t\tA\n",
         Status::Model,
@@ -343,10 +344,10 @@ fn each_file_has_its_answer_in_memory(rt: HostRuntime) -> Result<(), Fail> {
 }
 
 /// A car that places one radio twice, of which one of both is in each product, and a radio has DAB.
-const CAR: &[u8] = b"imports\n\tparts.radio as x\n\tparts.radio as y\nfeatures\n\tCar\n\t\talternative\n\t\t\tx.Radio\n\t\t\ty.Radio\n";
+const CAR: &[u8] =
+    b"imports\n\tparts.radio as x\n\tparts.radio as y\nfeatures\n\tCar\n\t\talternative\n\t\t\tx.Radio\n\t\t\ty.Radio\n";
 
-const RADIO: &[u8] =
-    b"features\n\tRadio\n\t\toptional\n\t\t\tDAB\nconstraints\n\tRadio => DAB\n";
+const RADIO: &[u8] = b"features\n\tRadio\n\t\toptional\n\t\t\tDAB\nconstraints\n\tRadio => DAB\n";
 
 #[test]
 fn a_model_of_two_files_is_answered(rt: HostRuntime) -> Result<(), Fail> {
@@ -354,7 +355,8 @@ fn a_model_of_two_files_is_answered(rt: HostRuntime) -> Result<(), Fail> {
     let mut files = SureFiles::new(alloc);
     files.add(alloc, "car.uvl", CAR)?;
     files.add(alloc, "parts/radio.uvl", RADIO)?;
-    let script = b"void\nvalid Car x.Radio\nvalid Car x.Radio x.DAB\nvalid Car \"y.Radio\" y.DAB\nvalid Car Radio\n";
+    let script =
+        b"void\nvalid Car x.Radio\nvalid Car x.Radio x.DAB\nvalid Car \"y.Radio\" y.DAB\nvalid Car Radio\n";
     let mut input = SureSource::new(alloc, script)?;
     let mut out = SureSink::new(alloc);
     let ended = run_in_memory(alloc, &["car.uvl"], &mut files, &mut input, &mut out);
