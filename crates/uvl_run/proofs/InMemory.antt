@@ -1,5 +1,5 @@
 -- Over objects that tell everything and never fail, what a run answers is the run of its files and its script.
-use Rattle.std.proofs.Common.{◌≡◌, ℕ, ◌<◌, ◌≤◌, List, ◌++◌, length, take, Option, Some, inl, inr, refl, sym, ap, ◌∙◌, subst, arith, length-append}
+use Rattle.std.proofs.Common.{◌≡◌, ℕ, ◌<◌, ◌≤◌, List, ◌++◌, length, take, Some, inl, inr, refl, sym, ap, ◌∙◌, subst, arith, length-append}
 use Rattle.std.proofs.lemmas.List.{take-append-le}
 use Rattle.uvl_outside.specs.Files.{Contents}
 use Rattle.uvl_outside.specs.declared.sink.PutFault.{PutFault}
@@ -18,7 +18,7 @@ use Rattle.uvl_run.specs.InMemory.{HasFiles, HasFaultLine, HasShortBudget, IsCut
 use Rattle.uvl_run.specs.Budget.{IsShortFor}
 use Rattle.uvl_run.specs.Outside.{Object, the_files, the_input, the_output, Outside, seen, AreCounted}
 use Rattle.uvl_run.specs.Replies.{Reply, Fetches}
-use Rattle.uvl_run.specs.Run.{NamesModel, IsAccepted, IsFaulty, SaysLine, EndsRun, Answers, fault_line, words_refused, model_faulty, over_budget, model_unread, starved, script_answered}
+use Rattle.uvl_run.specs.Run.{IsAccepted, IsFaulty, SaysLine, EndsRun, Answers, fault_line, words_refused, model_faulty, over_budget, model_unread, starved, script_answered}
 use Rattle.uvl_run.specs.State.{State, IsStart}
 use Rattle.uvl_run.specs.Status.{Outcome, unhindered, outcome_of}
 

@@ -1,6 +1,6 @@
 -- Whatever is at the paths of files, a main file is that of one set in which nothing is wrong, or has one fault: this
 -- follows from the laws of the layers.
-use Rattle.std.proofs.Common.{◌≡◌, ◌⊎◌, ℕ, List, inl, inr, refl, sym, ◌∙◌, ap, subst}
+use Rattle.std.proofs.Common.{◌≡◌, ◌⊎◌, ℕ, List, inl, inr, refl, subst}
 use Rattle.uvl_outside.specs.Files.{Contents}
 use Rattle.uvl_base.specs.declared.fault.FaultKind.TheVariants.{NotBuilt}
 use Rattle.uvl_base.specs.declared.fault.ModelFault.{ModelFault}
@@ -14,7 +14,7 @@ use Rattle.uvl_scope.specs.Faults as scope
 use Rattle.uvl_scope.specs.Law.{HasOneFault, IsFine, IsOpen, EachSetHasOneAnswer}
 use Rattle.uvl_run.specs.Laws.{IsOneSet, EachMainFileIsLoadedOnce}
 use Rattle.uvl_run.specs.Laws as law
-use Rattle.uvl_run.specs.Loading.{IsSetOf, HasFault, in_loading, in_set, not_built}
+use Rattle.uvl_run.specs.Loading.{HasFault, in_loading, in_set, not_built}
 
 -- a fault in the loading
 unloaded : (contents : Contents) (main : List ℕ) → loading.HasFault contents main → law.HasOneFault contents main

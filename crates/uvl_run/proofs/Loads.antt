@@ -1,5 +1,5 @@
 -- What the answers of the loading and of the resolution say of a main file.
-use Rattle.std.proofs.Common.{◌≡◌, ℕ, Bool, false, List, Option, Some, None, Result, Err, refl, sym, ap, subst}
+use Rattle.std.proofs.Common.{◌≡◌, ℕ, false, List, Option, Some, None, Err, refl, sym, ap, subst}
 use Rattle.uvl_outside.specs.Files.{Contents}
 use Rattle.uvl_base.specs.declared.fault.ModelFault.{ModelFault}
 use Rattle.uvl_imports.specs.declared.fault.LoadFault.{LoadFault}

@@ -1,17 +1,14 @@
 -- What is enough for up to nine features is below the budget where none is given.
-use Rattle.std.proofs.Common.{◌≡◌, ◌<◌, ◌≤◌, ℕ, ◌+◌, ◌*◌, ◌^◌, List, length, Some, ap, sym, ◌∙◌, arith, lit<, lit≤, le_trans, le_refl, lt_of_lt_of_le, add-le-add, mul-le-mul, mul-le-mul_left}
+use Rattle.std.proofs.Common.{◌≡◌, ◌<◌, ◌≤◌, ℕ, ◌+◌, ◌*◌, ◌^◌, length, ap, sym, ◌∙◌, arith, lit<, lit≤, le_trans, le_refl, lt_of_lt_of_le, add-le-add, mul-le-mul, mul-le-mul_left}
 use Rattle.std.proofs.Math.Nat.{pow-le-pow_right}
 use Rattle.std.proofs.lemmas.List.{length-map}
 use Rattle.std.proofs.lemmas.Option.{same_Some}
 use Rattle.uvl_functions.specs.Enough.{enough}
-use Rattle.uvl_imports.specs.declared.file_set.Loaded.{Loaded}
 use Rattle.uvl_model.specs.Products.{Products}
 use Rattle.uvl_resolve.specs.Laws.{FlatKeepsProducts}
 use Rattle.uvl_semantics.specs.Family.{Family}
 use Rattle.uvl_words.specs.Budgets.{default_budget}
-use Rattle.uvl_run.specs.Budget.{IsShortFor}
 use Rattle.uvl_run.specs.Laws.{NineFeaturesAreNeverTooMany}
-use Rattle.uvl_run.specs.Models.{products_of}
 use Rattle.uvl_run.proofs.Runs.{products_are}
 
 -- as what is enough grows with the number of features

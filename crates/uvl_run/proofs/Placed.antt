@@ -1,5 +1,5 @@
 -- Where the variables of a model stand in a table that had none.
-use Rattle.std.proofs.Common.{◌≡◌, ◌<◌, ◌≤◌, ◌⊎◌, ℕ, zero, suc, ◌+◌, List, [], ◌∷◌, ◌++◌, length, map, slice_get, Option, Some, None, get_or, Contains, refl, sym, ap, ◌∙◌, subst, false, if◌then◌else◌, add-one, arith, append-nil, append_assoc, length-append, inl, inr}
+use Rattle.std.proofs.Common.{◌≡◌, ◌<◌, ◌⊎◌, ℕ, zero, suc, ◌+◌, List, [], ◌∷◌, ◌++◌, length, slice_get, Option, Some, None, get_or, Contains, refl, sym, ap, ◌∙◌, subst, false, arith, append-nil, append_assoc, inl, inr}
 use Rattle.std.specs.Option.{option_map}
 use Rattle.std.proofs.lemmas.List.{length-map}
 use Rattle.std.proofs.lemmas.List.Elements.{Contains-append_cases, Contains-append_right, Contains-get_or, Contains-push_cases}
@@ -14,15 +14,13 @@ use Rattle.uvl_functions.specs.Cause.{IsShortFor}
 use Rattle.uvl_functions.specs.Enough.{enough}
 use Rattle.uvl_functions.specs.Groups.{compile_groups}
 use Rattle.uvl_functions.specs.Laws.{EnoughIsEnough}
-use Rattle.uvl_functions.specs.Placing.{with_name, with_names, AreNamed, AddsVariables}
-use Rattle.uvl_functions.specs.Variables.{HasVariables}
+use Rattle.uvl_functions.specs.Placing.{with_names, AreNamed, AddsVariables}
 use Rattle.uvl_model.specs.Laws.{RowsGiveNames}
 use Rattle.uvl_model.specs.Names.{feature_names}
 use Rattle.uvl_model.specs.Rows.{Rows}
 use Rattle.uvl_model.specs.Sound.{AreDistinct, IsSound}
-use Rattle.uvl_model.specs.declared.rows.FeatureRow.{FeatureRow}
 use Rattle.uvl_semantics.specs.Product.{has}
-use Rattle.uvl_semantics.proofs.Membership.{Contains-from_has, has-absent}
+use Rattle.uvl_semantics.proofs.Membership.{has-absent}
 use Rattle.uvl_run.specs.Budget.{variables_from, main_variables}
 use Rattle.uvl_run.specs.steps.Compiled.{IsCauseFor}
 

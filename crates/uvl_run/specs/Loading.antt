@@ -1,5 +1,5 @@
 -- Which set of files a main file is, and what is wrong first where there is none. This project's own.
-use Rattle.std.specs.Prelude.{◌≡◌, ⊤, ℕ, List, Option, IfSome}
+use Rattle.std.specs.Prelude.{◌≡◌, ℕ, List, Option, IfSome}
 use Rattle.uvl_outside.specs.Files.{Contents}
 use Rattle.uvl_base.specs.declared.fault.FaultKind.TheVariants.{NotBuilt}
 use Rattle.uvl_base.specs.declared.fault.ModelFault.{ModelFault}

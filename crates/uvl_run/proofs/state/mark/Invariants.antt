@@ -1,6 +1,5 @@
 -- The marks stand for the names up to now.
-use Rattle.std.proofs.Common.{◌≡◌, ◌<◌, length, take}
-use Rattle.std.specs.List.{All}
+use Rattle.std.proofs.Common.{take}
 use Rattle.dd_store.specs.Follow.{assignment_of}
 use Rattle.uvl_functions.specs.Variables.{marks_under}
 use Rattle.uvl_model.specs.Marks.{StandFor}

@@ -1,5 +1,4 @@
 -- The model is compiled, or the budget is too small for that.
-use Rattle.std.proofs.Common.{sym}
 use Rattle.uvl_run.specs.Budget.{IsShortFor, budget_line}
 use Rattle.uvl_run.proofs.Runs.{short, answered, no_memory, starts_with}
 use Rattle.uvl_run.proofs.top.answer_by_model.Goals as goal
