@@ -1,15 +1,16 @@
 //! The products of a model: its diagram, and the answers of the diagram and of the model's rows.
 ghost use Rattle.std.specs.Prelude.{IfSome};
 ghost use Rattle.dd_store.specs.Table.{IsLive};
-ghost use Rattle.uvl_tree_model.specs.OptionalGroups.{GroupsAreMandatoryOrOptional};
+ghost use Rattle.uvl_model.specs.Comparisons.{HaveNoComparison};
 
-use crate::tokens::tokens_of;
-use dd_store::{Handle, Store};
+use dd_apply::Kernel;
+use dd_store::Handle;
 use std::alloc::Global;
-use uvl_parser::parse;
-use uvl_tree_compile::{add_variables, compile};
-use uvl_tree_model::Model;
-use uvl_tree_resolve::resolve;
+use uvl_compile::{Names, compile};
+use uvl_imports::load;
+use uvl_model::Model;
+use uvl_outside::SureFiles;
+use uvl_resolve::resolve;
 
 /// How many nodes a table may hold: as many as the program gives it where its words don't say.
 const BUDGET: u32 = 1_048_576;
@@ -55,46 +56,50 @@ pub(crate) fn count_products(
     }
 }
 
-/// The model that a text says.
+/// The model that a text says, as a file without imports.
 fn model_in(alloc: Global, text: &str) -> Option<Model>
-    ensures { IfSome result GroupsAreMandatoryOrOptional }
+    ensures { IfSome result HaveNoComparison }
 {
-    let tokens = tokens_of(alloc, text)?;
-    let file = parse(alloc, &tokens).ok()?;
-    match resolve(alloc, &file) {
+    let mut files = SureFiles::new(alloc);
+    files.add(alloc, "m.uvl", text.as_bytes()).ok()?;
+    let Ok(set) = load(alloc, &mut files, "m.uvl") else {
+        return None;
+    };
+    match resolve(alloc, &set) {
         Ok(model) => Some(model),
         Err(_) => None,
     }
 }
 
-/// The diagram of a model's products.
+/// The diagram of a model's products, in a table of its own.
 #[derive(Drop)]
 struct Diagram {
-    store: Store,
+    kernel: Kernel,
     handle: Handle,
-    ghost live: { IsLive store handle },
+    ghost live: { IsLive kernel handle },
 }
 
 impl Diagram {
-    /// Makes the diagram, where there is memory.
+    /// Makes the diagram, where there is memory and the budget is enough.
     fn new(alloc: Global, model: &Model) -> Option<Diagram>
-        requires { GroupsAreMandatoryOrOptional model.now }
+        requires { HaveNoComparison model.now }
     {
-        let mut store = Store::new(alloc, BUDGET).ok()?;
-        add_variables(alloc, &mut store, model.features().len()).ok()?;
-        let handle = compile(alloc, &mut store, model).ok()?;
-        Some(Diagram { store, handle })
+        let mut kernel = Kernel::new(alloc, BUDGET).ok()?;
+        let mut names = Names::new(alloc);
+        let map = names.place(&mut kernel, alloc, model).ok()?;
+        let handle = compile(&mut kernel, alloc, model, &map).ok()?;
+        Some(Diagram { kernel, handle })
     }
 
-    /// Whether the chosen features are a product.
-    fn has(&self, chosen: &[bool]) -> bool {
-        let variables = self.store.variables();
-        chosen.len() == variables as usize && self.store.value(&self.handle, chosen)
+    /// Whether the features with a true variable are a product.
+    fn has(&self, assignment: &[bool]) -> bool {
+        let variables = self.kernel.variables();
+        assignment.len() == variables as usize && self.kernel.value(&self.handle, assignment)
     }
 }
 
 fn count_diagrams(alloc: Global, model: &Model, rounds: u32) -> u64
-    requires { GroupsAreMandatoryOrOptional model.now }
+    requires { HaveNoComparison model.now }
 {
     let mut count = 0u64;
     for _round in 0..rounds {
@@ -105,8 +110,11 @@ fn count_diagrams(alloc: Global, model: &Model, rounds: u32) -> u64
     count
 }
 
-/// How many of the sets are products by the diagram, or by the rows where there is none.
-fn count_sets(alloc: Global, model: &Model, diagram: Option<&Diagram>, rounds: u32) -> Option<u64> {
+/// How many of the sets are products by the diagram, or by the rows where there is none. The variables of a
+/// table of its own have the numbers of the features.
+fn count_sets(alloc: Global, model: &Model, diagram: Option<&Diagram>, rounds: u32) -> Option<u64>
+    requires { HaveNoComparison model.now }
+{
     let size = model.features().len();
     let mut chosen = vec![in alloc; true; size].ok()?;
     let mut count = 0u64;

@@ -1,26 +1,26 @@
 -- The causes of the statuses exclude one another.
-use Rattle.std.proofs.Common.{◌≡◌, ℕ, ◌<◌, ◌≤◌, List, [], ◌∷◌, length, Option, Some, None, IfSome, inl, inr, refl, sym, ap, ◌∙◌, subst, arith, length-append}
+use Rattle.std.proofs.Common.{◌≡◌, ℕ, ◌<◌, ◌≤◌, ◌⊎◌, List, [], ◌∷◌, length, Option, Some, None, IfSome, inl, inr, refl, sym, ap, ◌∙◌, subst, arith, length-append}
 use Rattle.std.proofs.lemmas.Option.{same_Some}
 use Rattle.std.specs.Io.KnownBytes.{Consumes}
 use Rattle.uvl_outside.specs.Files.{Contents}
 use Rattle.uvl_outside.specs.declared.sink.PutFault.{PutFault}
 use Rattle.uvl_outside.specs.declared.sink.PutFault.TheVariants as putting
-use Rattle.uvl_base.specs.declared.fault.FaultKind.{FaultKind}
-use Rattle.uvl_base.specs.declared.place.Place.{Place}
 use Rattle.uvl_base.specs.Limits.{most_script_bytes}
 use Rattle.uvl_lines.specs.declared.ending.Ending.{Ending}
 use Rattle.uvl_lines.specs.declared.ending.Ending.TheVariants as lines
 use Rattle.uvl_lines.specs.Endings.{Ends, TakesAll, ending_of_put}
-use Rattle.uvl_tree_model.specs.Tree.{Tree}
+use Rattle.uvl_base.specs.declared.fault.ModelFault.{ModelFault}
+use Rattle.uvl_imports.specs.declared.file_set.Loaded.{Loaded}
+use Rattle.uvl_imports.specs.Loading.{LoadsAs}
 use Rattle.uvl_words.specs.CommandLine.{Request, for_model}
 use Rattle.uvl_run.specs.declared.status.Status.{Status}
 use Rattle.uvl_run.specs.declared.status.Status.TheVariants.{Done, Usage, Model, WriteFault, OverBudget, TooMuchInput}
-use Rattle.uvl_run.specs.Budget.{nodes_for}
-use Rattle.uvl_run.specs.Loading.{IsModelOf, HasFault, LoadsModel, LoadsFault, Tells}
+use Rattle.uvl_run.specs.Budget.{IsShortFor}
+use Rattle.uvl_run.specs.Loading.{IsSetOf, HasFault, LoadsSet, LoadsFault}
 use Rattle.uvl_run.specs.Outside.{Object, the_files, the_input, the_output, Outside, AreCounted}
 use Rattle.uvl_run.specs.Replies.{Reply, Fetches}
-use Rattle.uvl_run.specs.Run.{NamesModel, IsRefused, IsAccepted, IsOverBudget, IsFaulty, SaysLine, EndsRun, Answers, words_refused, model_faulty, over_budget, model_unread, starved, script_answered}
-use Rattle.uvl_run.specs.Laws.{EachContentIsLoadedOnce}
+use Rattle.uvl_run.specs.Run.{NamesModel, IsRefused, IsAccepted, IsFaulty, SaysLine, EndsRun, Answers, words_refused, model_faulty, over_budget, model_unread, starved, script_answered}
+use Rattle.uvl_run.specs.Laws.{EachMainFileIsLoadedOnce}
 use Rattle.uvl_run.specs.Exactly.{HasCause, HasModel, HasFaultyModel, HasFailed, ComesUnless, IsExact}
 use Rattle.uvl_run.specs.State.{State}
 use Rattle.uvl_run.specs.Status.{Outcome, unhindered, outcome_of}
@@ -74,22 +74,22 @@ module _ (words : List (List ℕ)) (told : Option Contents) (before now : Outsid
   beyond (Some bytes) None taken moved long = absurd moved
   beyond (Some bytes) (Some rest) taken moved long = omega (arith, ap length moved, length-append taken rest)
 
-  by_ending : (tree : Tree) (budget : ℕ) (start : State) (taken said : List ℕ) (ending : Ending) → Consumes before.left now.left taken → IsAccepted words told tree budget
+  by_ending : (files : List Loaded) (budget : ℕ) (start : State) (taken said : List ℕ) (ending : Ending) → Consumes before.left now.left taken → IsAccepted words told files budget
       → Ends Reply Fetches start before.left taken said ending → Caused (outcome_of ending)
-  by_ending tree budget start taken said lines.Done moved accepted ends counted = ((tree, budget, accepted), all_within before.left taken ends.0 ends.1, counted)
-  by_ending tree budget start taken said lines.TooMuch moved accepted ends counted = ((tree, budget, accepted), beyond before.left now.left taken moved ends.0, counted)
-  by_ending tree budget start taken said lines.InputFailed moved accepted ends counted = inr counted
-  by_ending tree budget start taken said lines.FetchFailed moved accepted ends counted = inl counted
-  by_ending tree budget start taken said lines.WriteFailed moved accepted ends counted = counted
-  by_ending tree budget start taken said lines.NoMemory moved accepted ends counted = counted
+  by_ending files budget start taken said lines.Done moved accepted ends counted = ((files, budget, accepted), all_within before.left taken ends.0 ends.1, counted)
+  by_ending files budget start taken said lines.TooMuch moved accepted ends counted = ((files, budget, accepted), beyond before.left now.left taken moved ends.0, counted)
+  by_ending files budget start taken said lines.InputFailed moved accepted ends counted = inr counted
+  by_ending files budget start taken said lines.FetchFailed moved accepted ends counted = inl counted
+  by_ending files budget start taken said lines.WriteFailed moved accepted ends counted = counted
+  by_ending files budget start taken said lines.NoMemory moved accepted ends counted = counted
 
   cause : (taken said : List ℕ) (o : Outcome) → Consumes before.left now.left taken → EndsRun words told before.left taken said o → Caused o
   cause taken said o moved (words_refused refused none says) = by_line _ said Usage o says (λ counted. (refused, counted))
-  cause taken said o moved (model_faulty path place kind faulty none says) = by_line _ said Model o says (λ counted. (path, place, kind, faulty, counted))
-  cause taken said o moved (over_budget tree budget over none says) = by_line _ said OverBudget o says (λ counted. (tree, budget, over, counted))
+  cause taken said o moved (model_faulty fault faulty none says) = by_line _ said Model o says (λ counted. (fault, faulty, counted))
+  cause taken said o moved (over_budget files budget accepted short none says) = by_line _ said OverBudget o says (λ counted. (files, budget, accepted, short, counted))
   cause taken said o moved (model_unread path budget named untouched is) = caused_as o (outcome_of lines.FetchFailed) is (λ counted. inl counted)
   cause taken said o moved (starved untouched is) = caused_as o (outcome_of lines.NoMemory) is (λ counted. counted)
-  cause taken said o moved (script_answered tree budget start ending accepted starts ends is) = caused_as o (outcome_of ending) is (by_ending tree budget start taken said ending moved accepted ends)
+  cause taken said o moved (script_answered files budget start ending accepted starts ends is) = caused_as o (outcome_of ending) is (by_ending files budget start taken said ending moved accepted ends)
 
   -- ---- what comes where a cause is
 
@@ -122,105 +122,96 @@ module _ (words : List (List ℕ)) (told : Option Contents) (before now : Outsid
 
   usage_where : (taken said : List ℕ) (o : Outcome) → EndsRun words told before.left taken said o → IsRefused words → Comes (the_output ∷ []) Usage o
   usage_where taken said o (words_refused none empty says) refused = line_comes (the_output ∷ []) _ said Usage o (λ counted. inl (refl, counted)) says
-  usage_where taken said o (model_faulty path place kind faulty empty says) refused = absurd (no_request words path faulty.budget refused faulty.named)
-  usage_where taken said o (over_budget tree budget over empty says) refused = absurd (no_request words over.path budget refused over.named)
+  usage_where taken said o (model_faulty fault faulty empty says) refused = absurd (no_request words faulty.path faulty.budget refused faulty.named)
+  usage_where taken said o (over_budget files budget accepted short empty says) refused = absurd (no_request words accepted.path budget refused accepted.named)
   usage_where taken said o (model_unread path budget named untouched is) refused = absurd (no_request words path budget refused named)
   usage_where taken said o (starved untouched is) refused = starved_comes (the_output ∷ []) Usage o is
-  usage_where taken said o (script_answered tree budget start ending accepted starts ends is) refused = absurd (no_request words accepted.path budget refused accepted.named)
+  usage_where taken said o (script_answered files budget start ending accepted starts ends is) refused = absurd (no_request words accepted.path budget refused accepted.named)
 
-  module _ (law : EachContentIsLoadedOnce) where
-    -- what is the model of a tree has no fault
-    no_fault : (content : Option (List ℕ)) (tree : Tree) (place : Place) (kind : FaultKind) → IsModelOf content tree → HasFault content place kind → ⊥
-    no_fault content tree place kind model fault =
-        elim (law content) [ inl one ↦ one.no_fault place kind fault | inr one ↦ one.no_model tree model ]
+  module _ (law : EachMainFileIsLoadedOnce) where
+    -- a set in which nothing is wrong has no fault
+    no_fault : (contents : Contents) (main : List ℕ) (files : List Loaded) (fault : ModelFault) → IsSetOf contents main files → HasFault contents main fault → ⊥
+    no_fault contents main files fault set has =
+        elim (law contents main) [ inl one ↦ one.no_fault fault has | inr one ↦ one.no_set files set ]
 
-    -- what is at a path is the model of one tree
-    same_tree : (content : Option (List ℕ)) (a b : Tree) → IsModelOf content a → IsModelOf content b → a ≡ b
-    same_tree content a b first second =
-        elim (law content) [ inl one ↦ one.one a first ∙ sym (one.one b second) | inr one ↦ absurd (one.no_model a first) ]
+    -- a main file is that of one set
+    same_files : (contents : Contents) (main : List ℕ) (a b : List Loaded) → IsSetOf contents main a → IsSetOf contents main b → a ≡ b
+    same_files contents main a b first second =
+        elim (law contents main) [ inl one ↦ one.one a first ∙ sym (one.one b second) | inr one ↦ absurd (one.no_set a first) ]
 
     module _ (contents : Contents) (tells : told ≡ Some contents) where
-      -- what is told at the path of a loaded model is the model of its tree
-      told_model : (path : List ℕ) (tree : Tree) → LoadsModel told path tree → IsModelOf (contents path) tree
-      told_model path tree loads =
-          let P : Option Contents → Type 0 = λ t. Tells t path loads.0 in
-          let Q : Option (List ℕ) → Type 0 = λ content. IsModelOf content tree in
-          subst Q (sym (subst P tells loads.1)) loads.2
+      -- a set that loads of what is told is that of the contents
+      told_set : (path : List ℕ) (files : List Loaded) → LoadsSet told path files → IsSetOf contents path files
+      told_set path files loads =
+          let P : Option Contents → Type 0 = λ t. LoadsAs t path files in
+          record { loads = subst P tells loads.loads; accepted = loads.accepted }
 
-      -- a fault that is told at the path is that of what is there
-      told_fault : (path : List ℕ) (place : Place) (kind : FaultKind) → LoadsFault told path place kind → HasFault (contents path) place kind
-      told_fault path place kind fault = let P : Option Contents → Type 0 = λ t. LoadsFault t path place kind in subst P tells fault
+      -- a fault that is told at the path is that of the contents
+      told_fault : (path : List ℕ) (fault : ModelFault) → LoadsFault told path fault → HasFault contents path fault
+      told_fault path fault has = let P : Option Contents → Type 0 = λ t. LoadsFault t path fault in subst P tells has
 
-    -- a loaded model has no fault
-    not_faulty : (path : List ℕ) (budget : ℕ) (tree : Tree) → NamesModel words path budget → LoadsModel told path tree → HasFaultyModel words told → ⊥
-    not_faulty path budget tree named loads faulty =
-        let P : List ℕ → Type 0 = λ p. IsModelOf (faulty.contents p) tree in
-        let model = subst P (one_path words path faulty.path budget faulty.budget named faulty.named) (told_model faulty.contents faulty.tells path tree loads) in
-        no_fault (faulty.contents faulty.path) tree faulty.place faulty.kind model faulty.is
+    -- an accepted model has no fault
+    not_faulty : (files : List Loaded) (budget : ℕ) → IsAccepted words told files budget → HasFaultyModel words told → ⊥
+    not_faulty files budget accepted faulty =
+        let P : List ℕ → Type 0 = λ p. IsSetOf faulty.contents p files in
+        let set = subst P (one_path words accepted.path faulty.path budget faulty.budget accepted.named faulty.named) (told_set faulty.contents faulty.tells accepted.path files accepted.loads) in
+        no_fault faulty.contents faulty.path files faulty.fault set faulty.is
 
     -- a model that is told to be one is not faulty
-    not_modelled : (path : List ℕ) (place : Place) (kind : FaultKind) → IsFaulty words told path place kind → HasModel words told → ⊥
-    not_modelled path place kind faulty model =
-        let P : List ℕ → Type 0 = λ p. HasFault (model.contents p) place kind in
-        let fault = subst P (one_path words path model.path faulty.budget model.budget faulty.named model.named) (told_fault model.contents model.tells path place kind faulty.faulty) in
-        no_fault (model.contents model.path) model.tree place kind model.is fault
+    not_modelled : (fault : ModelFault) → IsFaulty words told fault → HasModel words told → ⊥
+    not_modelled fault faulty model =
+        let P : List ℕ → Type 0 = λ p. HasFault model.contents p fault in
+        let has = subst P (one_path words faulty.path model.path faulty.budget model.budget faulty.named model.named) (told_fault model.contents model.tells faulty.path fault faulty.faulty) in
+        no_fault model.contents model.path model.files fault model.is has
 
-    -- a loaded model wants as many nodes as the one that is told
-    same_need : (path : List ℕ) (budget : ℕ) (tree : Tree) → NamesModel words path budget → LoadsModel told path tree → (model : HasModel words told) → nodes_for tree ≡ nodes_for model.tree
-    same_need path budget tree named loads model =
-        let P : List ℕ → Type 0 = λ p. IsModelOf (model.contents p) tree in
-        let is = subst P (one_path words path model.path budget model.budget named model.named) (told_model model.contents model.tells path tree loads) in
-        ap nodes_for (same_tree (model.contents model.path) tree model.tree is model.is)
-
-    -- the budget of an accepted model isn't too small
-    not_short : (tree : Tree) (budget : ℕ) → IsAccepted words told tree budget → (model : HasModel words told) → model.budget < nodes_for model.tree → ⊥
-    not_short tree budget accepted model short =
-        let need = same_need accepted.path budget tree accepted.named accepted.loads model in
-        let budgets = one_budget words accepted.path model.path budget model.budget accepted.named model.named in
-        let enough = accepted.enough in
-        absurd (omega (arith, need, budgets))
-
-    -- a budget that suffices isn't too small
-    not_over : (tree : Tree) (budget : ℕ) → IsOverBudget words told tree budget → (model : HasModel words told) → nodes_for model.tree ≤ model.budget → ⊥
-    not_over tree budget over model enough =
-        let need = same_need over.path budget tree over.named over.loads model in
-        let budgets = one_budget words over.path model.path budget model.budget over.named model.named in
-        let short = over.short in
-        absurd (omega (arith, need, budgets))
+    -- a budget that is too small for an accepted model is so for the one that is told
+    short_too : (files : List Loaded) (budget : ℕ) → IsAccepted words told files budget → (model : HasModel words told) → IsShortFor files budget → IsShortFor model.files model.budget
+    short_too files budget accepted model short =
+        let P : List ℕ → Type 0 = λ p. IsSetOf model.contents p files in
+        let set = subst P (one_path words accepted.path model.path budget model.budget accepted.named model.named) (told_set model.contents model.tells accepted.path files accepted.loads) in
+        let Q : List Loaded → Type 0 = λ fs. IsShortFor fs model.budget in
+        let R : ℕ → Type 0 = λ n. IsShortFor files n in
+        subst Q (same_files model.contents model.path files model.files set model.is) (subst R (one_budget words accepted.path model.path budget model.budget accepted.named model.named) short)
 
     model_where : (taken said : List ℕ) (o : Outcome) → EndsRun words told before.left taken said o → HasFaultyModel words told → Comes (the_files ∷ the_output ∷ []) Model o
     model_where taken said o (words_refused none empty says) model = absurd (no_request words model.path model.budget none model.named)
-    model_where taken said o (model_faulty path place kind faulty empty says) model = line_comes (the_files ∷ the_output ∷ []) _ said Model o (λ counted. inr (inl (refl, counted))) says
-    model_where taken said o (over_budget tree budget over empty says) model = absurd (not_faulty over.path budget tree over.named over.loads model)
+    model_where taken said o (model_faulty fault faulty empty says) model = line_comes (the_files ∷ the_output ∷ []) _ said Model o (λ counted. inr (inl (refl, counted))) says
+    model_where taken said o (over_budget files budget accepted short empty says) model = absurd (not_faulty files budget accepted model)
     model_where taken said o (model_unread path budget named untouched is) model = unread_comes (the_output ∷ []) Model o is
     model_where taken said o (starved untouched is) model = starved_comes (the_files ∷ the_output ∷ []) Model o is
-    model_where taken said o (script_answered tree budget start ending accepted starts ends is) model =
-        absurd (not_faulty accepted.path budget tree accepted.named accepted.loads model)
-
-    over_budget_where : (taken said : List ℕ) (o : Outcome) → EndsRun words told before.left taken said o → (model : HasModel words told) → model.budget < nodes_for model.tree → Comes (the_files ∷ the_output ∷ []) OverBudget o
-    over_budget_where taken said o (words_refused none empty says) model short = absurd (no_request words model.path model.budget none model.named)
-    over_budget_where taken said o (model_faulty path place kind faulty empty says) model short = absurd (not_modelled path place kind faulty model)
-    over_budget_where taken said o (over_budget tree budget over empty says) model short = line_comes (the_files ∷ the_output ∷ []) _ said OverBudget o (λ counted. inr (inl (refl, counted))) says
-    over_budget_where taken said o (model_unread path budget named untouched is) model short = unread_comes (the_output ∷ []) OverBudget o is
-    over_budget_where taken said o (starved untouched is) model short = starved_comes (the_files ∷ the_output ∷ []) OverBudget o is
-    over_budget_where taken said o (script_answered tree budget start ending accepted starts ends is) model short = absurd (not_short tree budget accepted model short)
+    model_where taken said o (script_answered files budget start ending accepted starts ends is) model = absurd (not_faulty files budget accepted model)
 
     -- any of the objects may be in the way of a script
     abbrev each_object : List Object
     each_object = the_files ∷ the_input ∷ the_output ∷ []
 
-    -- what comes of a run whose model is told and whose budget suffices is what comes of its script
+    -- what comes of an outcome where the budget may be too small
+    abbrev ComesOr : HasModel words told → Status → Outcome → Type 0
+    ComesOr model expected o =
+        AreCounted o.failed before now → (IsShortFor model.files model.budget × (o.status ≡ OverBudget)) ⊎ ComesUnless each_object before now expected o.status
+
+    comes_or : (model : HasModel words told) (expected : Status) (o : Outcome) → Comes each_object expected o → ComesOr model expected o
+    comes_or model expected o comes counted = inr (comes counted)
+
+    -- the line for the budget was written, or not
+    short_or : (model : HasModel words told) (expected : Status) (line said : List ℕ) (o : Outcome) → IsShortFor model.files model.budget → SaysLine line OverBudget said o → ComesOr model expected o
+    short_or model expected line said o short (inl whole) counted = inl (short, ap (λ (x : Outcome). x.status) whole.1)
+    short_or model expected line said o short (inr front) counted =
+        inr (comes_as each_object expected o (outcome_of (ending_of_put front.0)) front.2 (put_comes each_object expected front.0 (λ rose. inr (inr (inl (refl, rose))))) counted)
+
+    -- what comes of a run whose model is told is what comes of its script, or the budget is too small
     script_where : (expected : Status) → ((start : State) (taken said : List ℕ) (ending : Ending) → Consumes before.left now.left taken
         → Ends Reply Fetches start before.left taken said ending → Comes each_object expected (outcome_of ending))
         → (taken said : List ℕ) (o : Outcome) → Consumes before.left now.left taken → EndsRun words told before.left taken said o
-        → (model : HasModel words told) → nodes_for model.tree ≤ model.budget → Comes each_object expected o
-    script_where expected comes taken said o moved (words_refused none empty says) model enough = absurd (no_request words model.path model.budget none model.named)
-    script_where expected comes taken said o moved (model_faulty path place kind faulty empty says) model enough = absurd (not_modelled path place kind faulty model)
-    script_where expected comes taken said o moved (over_budget tree budget over empty says) model enough = absurd (not_over tree budget over model enough)
-    script_where expected comes taken said o moved (model_unread path budget named untouched is) model enough = unread_comes (the_input ∷ the_output ∷ []) expected o is
-    script_where expected comes taken said o moved (starved untouched is) model enough = starved_comes each_object expected o is
-    script_where expected comes taken said o moved (script_answered tree budget start ending accepted starts ends is) model enough =
-        comes_as each_object expected o (outcome_of ending) is (comes start taken said ending moved ends)
+        → (model : HasModel words told) → ComesOr model expected o
+    script_where expected comes taken said o moved (words_refused none empty says) model = absurd (no_request words model.path model.budget none model.named)
+    script_where expected comes taken said o moved (model_faulty fault faulty empty says) model = absurd (not_modelled fault faulty model)
+    script_where expected comes taken said o moved (over_budget files budget accepted short empty says) model =
+        short_or model expected _ said o (short_too files budget accepted model short) says
+    script_where expected comes taken said o moved (model_unread path budget named untouched is) model = comes_or model expected o (unread_comes (the_input ∷ the_output ∷ []) expected o is)
+    script_where expected comes taken said o moved (starved untouched is) model = comes_or model expected o (starved_comes each_object expected o is)
+    script_where expected comes taken said o moved (script_answered files budget start ending accepted starts ends is) model =
+        comes_or model expected o (comes_as each_object expected o (outcome_of ending) is (comes start taken said ending moved ends))
 
     told_bytes : (P : List ℕ → Type 0) (input : Option (List ℕ)) (bytes : List ℕ) → input ≡ Some bytes → IfSome input P → P bytes
     told_bytes P input bytes is known = let Q : Option (List ℕ) → Type 0 = λ o. IfSome o P in subst Q is known
@@ -255,7 +246,6 @@ module _ (words : List (List ℕ)) (told : Option Contents) (before now : Outsid
           cause = cause run.taken run.said o run.moved run.ends run.counted;
           usage = λ refused. usage_where run.taken run.said o run.ends refused run.counted;
           model = λ model. model_where run.taken run.said o run.ends model run.counted;
-          over_budget = λ model short. over_budget_where run.taken run.said o run.ends model short run.counted;
-          done = λ model enough bytes is short. script_where Done (done_comes bytes is short) run.taken run.said o run.moved run.ends model enough run.counted;
-          too_much_input = λ model enough bytes is long. script_where TooMuchInput (too_much_comes bytes is long) run.taken run.said o run.moved run.ends model enough run.counted;
+          done = λ bytes is short model. script_where Done (done_comes bytes is short) run.taken run.said o run.moved run.ends model run.counted;
+          too_much_input = λ bytes is long model. script_where TooMuchInput (too_much_comes bytes is long) run.taken run.said o run.moved run.ends model run.counted;
         }

@@ -1,25 +1,24 @@
 -- Over objects that tell everything and never fail, what a run answers is the run of its files and its script.
-use Rattle.std.proofs.Common.{◌≡◌, ℕ, ◌<◌, ◌≤◌, List, ◌++◌, length, take, Option, Some, inl, inr, refl, sym, ap, ◌∙◌, subst, arith, length-append}
+use Rattle.std.proofs.Common.{◌≡◌, ℕ, ◌<◌, ◌≤◌, List, ◌++◌, length, take, Some, inl, inr, refl, sym, ap, ◌∙◌, subst, arith, length-append}
 use Rattle.std.proofs.lemmas.List.{take-append-le}
 use Rattle.uvl_outside.specs.Files.{Contents}
 use Rattle.uvl_outside.specs.declared.sink.PutFault.{PutFault}
 use Rattle.uvl_outside.specs.declared.sink.PutFault.TheVariants as putting
-use Rattle.uvl_base.specs.declared.fault.FaultKind.{FaultKind}
-use Rattle.uvl_base.specs.declared.place.Place.{Place}
 use Rattle.uvl_base.specs.Limits.{most_script_bytes}
 use Rattle.uvl_lines.specs.declared.ending.Ending.{Ending}
 use Rattle.uvl_lines.specs.declared.ending.Ending.TheVariants as lines
 use Rattle.uvl_lines.specs.Endings.{Ends, IsAnswered, ending_of_put}
 use Rattle.uvl_lines.specs.Lines.{ended_lines, script_lines}
 use Rattle.uvl_lines.specs.Runs.{IsFrontOf}
-use Rattle.uvl_tree_model.specs.Tree.{Tree}
+use Rattle.uvl_base.specs.declared.fault.ModelFault.{ModelFault}
+use Rattle.uvl_imports.specs.declared.file_set.Loaded.{Loaded}
 use Rattle.uvl_run.specs.declared.status.Status.{Status}
 use Rattle.uvl_run.specs.declared.status.Status.TheVariants.{Usage, Model, OverBudget}
-use Rattle.uvl_run.specs.InMemory.{HasTree, HasFaultLine, IsCutShort, IsRun, nothing, in_usage, in_fault, in_budget, in_script}
-use Rattle.uvl_run.specs.Loading.{IsModelOf, LoadsModel, fault_in}
+use Rattle.uvl_run.specs.InMemory.{HasFiles, HasFaultLine, HasShortBudget, IsCutShort, IsRun, nothing, in_usage, in_fault, in_budget, in_script}
+use Rattle.uvl_run.specs.Budget.{IsShortFor}
 use Rattle.uvl_run.specs.Outside.{Object, the_files, the_input, the_output, Outside, seen, AreCounted}
 use Rattle.uvl_run.specs.Replies.{Reply, Fetches}
-use Rattle.uvl_run.specs.Run.{NamesModel, IsAccepted, IsFaulty, SaysLine, EndsRun, Answers, fault_line, words_refused, model_faulty, over_budget, model_unread, starved, script_answered}
+use Rattle.uvl_run.specs.Run.{IsAccepted, IsFaulty, SaysLine, EndsRun, Answers, fault_line, words_refused, model_faulty, over_budget, model_unread, starved, script_answered}
 use Rattle.uvl_run.specs.State.{State, IsStart}
 use Rattle.uvl_run.specs.Status.{Outcome, unhindered, outcome_of}
 
@@ -44,10 +43,8 @@ module _ (words : List (List ℕ)) (contents : Contents) (script left written_be
   plain_as : (said : List ℕ) (o given : Outcome) → o ≡ given → Plain said given → Plain said o
   plain_as said o given is plain = let P : Outcome → Type 0 = λ x. Plain said x in subst P (sym is) plain
 
-  tree_at : (path : List ℕ) (budget : ℕ) (tree : Tree) → NamesModel words path budget → LoadsModel (Some contents) path tree → HasTree words contents tree budget
-  tree_at path budget tree named loads =
-      let P : Option (List ℕ) → Type 0 = λ content. IsModelOf content tree in
-      record { path = path; named = named; is = subst P (sym loads.1) loads.2 }
+  files_at : (files : List Loaded) (budget : ℕ) → IsAccepted words (Some contents) files budget → HasFiles words contents files budget
+  files_at files budget accepted = record { path = accepted.path; named = accepted.named; is = record { loads = accepted.loads.loads; accepted = accepted.loads.accepted } }
 
   by_put : (said : List ℕ) (fault : PutFault) → IsCutShort words contents script said → Plain said (outcome_of (ending_of_put fault))
   by_put said putting.Failed short counted = absurd (none_failed the_output counted)
@@ -65,35 +62,38 @@ module _ (words : List (List ℕ)) (contents : Contents) (script left written_be
       let fits : most_script_bytes ≤ length taken = omega arith in
       sym (ap (take most_script_bytes) moved ∙ take-append-le most_script_bytes taken left fits)
 
-  by_ending : (tree : Tree) (budget : ℕ) (start : State) (taken said : List ℕ) (ending : Ending) → script ≡ taken ++ left → IsAccepted words (Some contents) tree budget → IsStart tree budget start
+  by_ending : (files : List Loaded) (budget : ℕ) (start : State) (taken said : List ℕ) (ending : Ending) → script ≡ taken ++ left → IsAccepted words (Some contents) files budget → IsStart files budget start
       → Ends Reply Fetches start (Some script) taken said ending → Plain said (outcome_of ending)
-  by_ending tree budget start taken said lines.Done moved accepted starts ends counted =
+  by_ending files budget start taken said lines.Done moved accepted starts ends counted =
       let P : List ℕ → Type 0 = λ bytes. IsAnswered Reply start (script_lines bytes) said in
-      (tree, budget, tree_at accepted.path budget tree accepted.named accepted.loads, accepted.enough, omega (arith, ap length ends.0, ends.1), (start, starts, subst P (sym ends.0) ends.2))
-  by_ending tree budget start taken said lines.TooMuch moved accepted starts ends counted =
+      (files, budget, files_at files budget accepted, omega (arith, ap length ends.0, ends.1), (start, starts, subst P (sym ends.0) ends.2))
+  by_ending files budget start taken said lines.TooMuch moved accepted starts ends counted =
       let P : List ℕ → Type 0 = λ bytes. IsAnswered Reply start (ended_lines bytes) said in
       let long : most_script_bytes < length script = omega (arith, ends.0, ap length moved, length-append taken left) in
-      (tree, budget, tree_at accepted.path budget tree accepted.named accepted.loads, accepted.enough, long, (start, starts, subst P (front_of_taken taken moved ends.0) ends.1))
-  by_ending tree budget start taken said lines.InputFailed moved accepted starts ends counted = absurd (none_failed the_input counted)
-  by_ending tree budget start taken said lines.FetchFailed moved accepted starts ends counted = absurd (none_failed the_files counted)
-  by_ending tree budget start taken said lines.WriteFailed moved accepted starts ends counted = absurd (none_failed the_output counted)
-  by_ending tree budget start taken said lines.NoMemory moved accepted starts ends counted =
-      in_script tree budget start taken (tree_at accepted.path budget tree accepted.named accepted.loads) accepted.enough starts (left, sym moved) ends
+      (files, budget, files_at files budget accepted, long, (start, starts, subst P (front_of_taken taken moved ends.0) ends.1))
+  by_ending files budget start taken said lines.InputFailed moved accepted starts ends counted = absurd (none_failed the_input counted)
+  by_ending files budget start taken said lines.FetchFailed moved accepted starts ends counted = absurd (none_failed the_files counted)
+  by_ending files budget start taken said lines.WriteFailed moved accepted starts ends counted = absurd (none_failed the_output counted)
+  by_ending files budget start taken said lines.NoMemory moved accepted starts ends counted =
+      in_script files budget start taken (files_at files budget accepted) starts (left, sym moved) ends
 
-  fault_line_of : (path : List ℕ) (place : Place) (kind : FaultKind) (line : List ℕ) → IsFaulty words (Some contents) path place kind → line ≡ fault_line (fault_in path place kind) → HasFaultLine words contents line
-  fault_line_of path place kind line faulty is =
-      record { path = path; budget = faulty.budget; named = faulty.named; place = place; kind = kind; is = faulty.faulty; spelled = is }
+  fault_line_of : (fault : ModelFault) (line : List ℕ) → IsFaulty words (Some contents) fault → line ≡ fault_line fault → HasFaultLine words contents line
+  fault_line_of fault line faulty is =
+      record { path = faulty.path; budget = faulty.budget; named = faulty.named; fault = fault; is = faulty.faulty; spelled = is }
+
+  short_budget_of : (files : List Loaded) (budget : ℕ) → IsAccepted words (Some contents) files budget → IsShortFor files budget → HasShortBudget words contents
+  short_budget_of files budget accepted short = record { files = files; budget = budget; has = files_at files budget accepted; short = short }
 
   plain : (taken said : List ℕ) (o : Outcome) → script ≡ taken ++ left → EndsRun words (Some contents) (Some script) taken said o → Plain said o
   plain taken said o moved (words_refused refused none says) = by_line _ said Usage o says (λ is. (refused, is)) (λ front. in_usage refused front)
-  plain taken said o moved (model_faulty path place kind faulty none says) =
-      by_line _ said Model o says (λ is. fault_line_of path place kind said faulty is) (λ front. in_fault _ (fault_line_of path place kind _ faulty refl) front)
-  plain taken said o moved (over_budget tree budget over none says) =
-      let has = tree_at over.path budget tree over.named over.loads in
-      by_line _ said OverBudget o says (λ is. (tree, budget, has, over.short, is)) (λ front. in_budget tree budget has over.short front)
+  plain taken said o moved (model_faulty fault faulty none says) =
+      by_line _ said Model o says (λ is. fault_line_of fault said faulty is) (λ front. in_fault _ (fault_line_of fault _ faulty refl) front)
+  plain taken said o moved (over_budget files budget accepted short none says) =
+      let has = short_budget_of files budget accepted short in
+      by_line _ said OverBudget o says (λ is. (has, is)) (λ front. in_budget has front)
   plain taken said o moved (model_unread path budget named untouched is) = plain_as said o (outcome_of lines.FetchFailed) is (λ counted. absurd (none_failed the_files counted))
   plain taken said o moved (starved untouched is) = plain_as said o (outcome_of lines.NoMemory) is (λ counted. nothing untouched.1)
-  plain taken said o moved (script_answered tree budget start ending accepted starts ends is) = plain_as said o (outcome_of ending) is (by_ending tree budget start taken said ending moved accepted starts ends)
+  plain taken said o moved (script_answered files budget start ending accepted starts ends is) = plain_as said o (outcome_of ending) is (by_ending files budget start taken said ending moved accepted starts ends)
 
   -- what was said is the run's, and stands behind what was written before
   pub in_memory : (status : Status) → Answers words (Some contents) before now status → (said : List ℕ) × (written ≡ written_before ++ said) × IsRun words contents script said status

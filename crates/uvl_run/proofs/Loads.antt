@@ -1,72 +1,52 @@
--- What a fetched file says of the model at its path.
-use Rattle.std.proofs.Common.{◌≡◌, ℕ, ◌<◌, ◌≤◌, Bool, true, false, ltb, List, length, Option, Some, None, Result, Ok, Err, MatchBool, IfOk, IfErr, IsSomeAnd, refl, sym, subst, arith}
-use Rattle.std.proofs.lemmas.Bool.Decides.{nat_tests}
-use Rattle.uvl_outside.specs.Files.{Contents, IsWhole, IsTooLong}
-use Rattle.uvl_base.specs.declared.fault.FaultKind.{FaultKind}
-use Rattle.uvl_base.specs.declared.fault.FaultKind.TheVariants.{TooLong}
-use Rattle.uvl_base.specs.declared.place.Place.{Place}
-use Rattle.uvl_base.specs.Limits.{most_file_bytes}
-use Rattle.uvl_tree_model.specs.Rows.{Rows}
-use Rattle.uvl_run.specs.declared.load.LoadFault.{LoadFault}
-use Rattle.uvl_run.specs.declared.load.LoadFault.TheVariants.{Model, Host, OutOfMemory}
-use Rattle.uvl_run.specs.Loading.{first_place, IsOfWholeFile, HasFaultIn, HasFault, LoadsFault}
-use Rattle.uvl_run.specs.steps.Loads.{SaysModel, IsLoaded}
-use Rattle.uvl_run.specs.steps.LoadFaults.{IsCauseOf, IsCauseIn}
+-- What the answers of the loading and of the resolution say of a main file.
+use Rattle.std.proofs.Common.{◌≡◌, ℕ, false, List, Option, Some, None, Err, refl, sym, ap, subst}
+use Rattle.uvl_outside.specs.Files.{Contents}
+use Rattle.uvl_base.specs.declared.fault.ModelFault.{ModelFault}
+use Rattle.uvl_imports.specs.declared.fault.LoadFault.{LoadFault}
+use Rattle.uvl_imports.specs.declared.fault.LoadFault.TheVariants.{Model, ReadFault, OutOfMemory}
+use Rattle.uvl_imports.specs.declared.file_set.Loaded.{Loaded}
+use Rattle.uvl_imports.specs.Loading.{LoadsAs, load_failed}
+use Rattle.uvl_imports.specs.Loading as loading
+use Rattle.uvl_model.specs.Rows.{Rows}
+use Rattle.uvl_resolve.specs.Faults as resolution
+use Rattle.uvl_resolve.specs.declared.fault.ResolveFault.{ResolveFault}
+use Rattle.uvl_resolve.specs.declared.fault.ResolveFault.TheVariants as resolving
+use Rattle.uvl_run.specs.Loading.{in_loading, in_set, not_built}
+use Rattle.uvl_run.specs.steps.Loads.{IsCauseOf, IsNotBuiltIn, IsFaultOf}
 
--- a whole file that says a tree is the model of it
-pub model_of_whole : (told : Option Contents) (path bytes : List ℕ) → IsWhole told path most_file_bytes bytes → (result : Result Rows LoadFault) → IfOk result (SaysModel bytes) → IfOk result (IsLoaded told path)
-model_of_whole told path bytes whole (Ok model) read =
-    (read.0, (Some bytes, whole.exact, record { bytes = bytes; there = refl; within = whole.within; says = read.1 }), read.2)
-model_of_whole told path bytes whole (Err fault) read = tt
+-- what is wrong in the loading is wrong with the main file
+pub cause_of_loading : (told : Option Contents) (path : List ℕ) (fault : LoadFault) → loading.IsCauseOf told path fault → IsCauseOf told path fault
+cause_of_loading None path (Model fault) cause = tt
+cause_of_loading (Some contents) path (Model fault) cause = in_loading cause
+cause_of_loading told path ReadFault cause = tt
+cause_of_loading told path OutOfMemory cause = tt
 
-pub short : (bytes : List ℕ) → length bytes ≤ most_file_bytes → ltb most_file_bytes (length bytes) ≡ false
-short bytes within = grind (arith, nat_tests)
+-- so is what is wrong in the set that is loaded
+in_resolution : (told : Option Contents) (path : List ℕ) (files : List Loaded) (fault : ModelFault) → LoadsAs told path files → resolution.IsCauseOf files (resolving.Model fault) → IsCauseOf told path (Model fault)
+in_resolution None path files fault loads first = tt
+in_resolution (Some contents) path files fault loads first = in_set files loads first
 
-pub long : (bytes : List ℕ) → most_file_bytes < length bytes → ltb most_file_bytes (length bytes) ≡ true
-long bytes beyond = grind (arith, nat_tests)
+-- and what isn't built yet
+unbuilt : (told : Option Contents) (path : List ℕ) (files : List Loaded) (met : LoadFault) → LoadsAs told path files → resolution.IsCauseOf files resolving.NotBuilt → IsNotBuiltIn path met → IsCauseOf told path met
+unbuilt None path files (Model fault) loads unready is = tt
+unbuilt (Some contents) path files (Model fault) loads unready is = not_built files loads unready is
+unbuilt told path files ReadFault loads unready is = absurd is
+unbuilt told path files OutOfMemory loads unready is = tt
 
--- the fault of a file within the limit is one that its bytes have
-pub fault_within : (bytes : List ℕ) (place : Place) (kind : FaultKind) → length bytes ≤ most_file_bytes → HasFaultIn bytes place kind → HasFault (Some bytes) place kind
-fault_within bytes place kind within fault =
-    let P : Bool → Type 0 = λ b. MatchBool b (IsOfWholeFile TooLong place kind) (HasFaultIn bytes place kind) in
-    subst P (sym (short bytes within)) fault
+pub cause_of_resolution : (told : Option Contents) (path : List ℕ) (files : List Loaded) (fault : ResolveFault) (met : LoadFault) → LoadsAs told path files → resolution.IsCauseOf files fault
+    → IsFaultOf path fault met → IsCauseOf told path met
+cause_of_resolution told path files (resolving.Model fault) met loads cause is =
+    subst (λ (f : LoadFault). IsCauseOf told path f) (sym is) (in_resolution told path files fault loads cause)
+cause_of_resolution told path files resolving.NotBuilt met loads cause is = unbuilt told path files met loads cause is
+cause_of_resolution told path files resolving.OutOfMemory met loads cause is = subst (λ (f : LoadFault). IsCauseOf told path f) (sym is) tt
 
--- and such a file has no other
-pub within_fault : (bytes : List ℕ) (place : Place) (kind : FaultKind) → length bytes ≤ most_file_bytes → HasFault (Some bytes) place kind → HasFaultIn bytes place kind
-within_fault bytes place kind within fault =
-    let P : Bool → Type 0 = λ b. MatchBool b (IsOfWholeFile TooLong place kind) (HasFaultIn bytes place kind) in
-    subst P (short bytes within) fault
+unbuilt_is_counted : (path : List ℕ) (met : LoadFault) → IsNotBuiltIn path met → load_failed {T = Rows} (Err met) ≡ false
+unbuilt_is_counted path (Model fault) is = refl
+unbuilt_is_counted path ReadFault is = absurd is
+unbuilt_is_counted path OutOfMemory is = refl
 
--- a file beyond the limit is too long
-pub fault_beyond : (bytes : List ℕ) → most_file_bytes < length bytes → HasFault (Some bytes) first_place TooLong
-fault_beyond bytes beyond =
-    let P : Bool → Type 0 = λ b. MatchBool b (IsOfWholeFile TooLong first_place TooLong) (HasFaultIn bytes first_place TooLong) in
-    subst P (sym (long bytes beyond)) (refl, refl)
-
--- and has no other fault
-pub beyond_fault : (bytes : List ℕ) (place : Place) (kind : FaultKind) → most_file_bytes < length bytes → HasFault (Some bytes) place kind → IsOfWholeFile TooLong place kind
-beyond_fault bytes place kind beyond fault =
-    let P : Bool → Type 0 = λ b. MatchBool b (IsOfWholeFile TooLong place kind) (HasFaultIn bytes place kind) in
-    subst P (long bytes beyond) fault
-
-told_fault : (told : Option Contents) (path bytes : List ℕ) (place : Place) (kind : FaultKind) → IsWhole told path most_file_bytes bytes → HasFaultIn bytes place kind → LoadsFault told path place kind
-told_fault None path bytes place kind whole fault = tt
-told_fault (Some contents) path bytes place kind whole fault =
-    let P : Option (List ℕ) → Type 0 = λ content. HasFault content place kind in
-    subst P (sym whole.exact) (fault_within bytes place kind whole.within fault)
-
--- a whole file without a model has the fault that its bytes have
-pub fault_of_whole : (told : Option Contents) (path bytes : List ℕ) → IsWhole told path most_file_bytes bytes → (result : Result Rows LoadFault) → IfErr result (IsCauseIn bytes) → IfErr result (IsCauseOf told path)
-fault_of_whole told path bytes whole (Ok model) cause = tt
-fault_of_whole told path bytes whole (Err (Model place kind)) cause = told_fault told path bytes place kind whole cause
-fault_of_whole told path bytes whole (Err Host) cause = tt
-fault_of_whole told path bytes whole (Err OutOfMemory) cause = tt
-
-too_long_at : (content : Option (List ℕ)) → IsSomeAnd content (λ bytes. most_file_bytes < length bytes) → HasFault content first_place TooLong
-too_long_at (Some bytes) beyond = fault_beyond bytes beyond
-too_long_at None beyond = absurd beyond
-
--- a file that is longer than the limit is too long
-pub fault_of_too_long : (told : Option Contents) (path into : List ℕ) → IsTooLong told path most_file_bytes into → LoadsFault told path first_place TooLong
-fault_of_too_long None path into long = tt
-fault_of_too_long (Some contents) path into long = too_long_at (contents path) long.exact
+-- no fault of the resolution is one of the host
+pub not_of_host : (path : List ℕ) (fault : ResolveFault) (met : LoadFault) → IsFaultOf path fault met → load_failed {T = Rows} (Err met) ≡ false
+not_of_host path (resolving.Model fault) met is = ap (λ (f : LoadFault). load_failed {T = Rows} (Err f)) is
+not_of_host path resolving.NotBuilt met is = unbuilt_is_counted path met is
+not_of_host path resolving.OutOfMemory met is = ap (λ (f : LoadFault). load_failed {T = Rows} (Err f)) is

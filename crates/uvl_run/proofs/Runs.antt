@@ -1,6 +1,5 @@
 -- How each end of a run comes about.
-use Rattle.std.proofs.Common.{◌≡◌, ℕ, ◌<◌, ◌≤◌, ◌*◌, Bool, true, false, IsFalse, List, [], length, take, Option, Some, None, Err, inl, inr, refl, sym, ap, ◌∙◌, subst, arith}
-use Rattle.std.proofs.lemmas.List.{length-map}
+use Rattle.std.proofs.Common.{◌≡◌, ℕ, Bool, true, false, IsFalse, List, [], take, Option, Some, None, Err, inl, inr, refl, sym, ap, ◌∙◌, subst, arith}
 use Rattle.std.specs.Prelude.{⊤}
 use Rattle.std.specs.Io.KnownBytes.{Appends}
 use Rattle.uvl_outside.specs.Faults.{Counts}
@@ -8,24 +7,30 @@ use Rattle.uvl_outside.specs.Files.{Contents}
 use Rattle.uvl_outside.specs.Sink.{AppendsFront, put_failed}
 use Rattle.uvl_outside.specs.declared.sink.PutFault.{PutFault}
 use Rattle.uvl_outside.specs.declared.sink.PutFault.TheVariants as putting
-use Rattle.uvl_base.specs.declared.fault.FaultKind.{FaultKind}
-use Rattle.uvl_base.specs.declared.place.Place.{Place}
 use Rattle.uvl_lines.specs.declared.ending.Ending.{Ending}
 use Rattle.uvl_lines.specs.declared.ending.Ending.TheVariants as lines
 use Rattle.uvl_lines.specs.Endings.{AnswersLines, ending_of_put, is_input_failed, is_fetch_failed, is_write_failed}
-use Rattle.uvl_tree_compile.specs.Nodes.{nodes_per_feature, most_nodes_of}
-use Rattle.uvl_tree_model.specs.Family.{Family}
-use Rattle.uvl_tree_model.specs.Products.{Products, ProductsOfTree}
-use Rattle.uvl_tree_model.specs.Rows.{Rows}
-use Rattle.uvl_tree_model.specs.Tree.{Tree}
+use Rattle.uvl_base.specs.declared.fault.ModelFault.{ModelFault}
+use Rattle.uvl_imports.specs.declared.file_set.Loaded.{Loaded}
+use Rattle.uvl_model.specs.Constraints.{constraints_of}
+use Rattle.uvl_model.specs.Products.{Products}
+use Rattle.uvl_model.specs.Rows.{Rows}
+use Rattle.uvl_placing.specs.Files.{main_constraints}
+use Rattle.uvl_placing.specs.Options.{of_both}
+use Rattle.uvl_resolve.specs.Flat.{Flat}
+use Rattle.uvl_resolve.specs.Laws.{FlatKeepsProducts}
+use Rattle.uvl_semantics.specs.Constraint.{Constraint}
+use Rattle.uvl_semantics.specs.Family.{Family, ProductsOf}
+use Rattle.uvl_semantics.specs.Tree.{Tree}
 use Rattle.uvl_words.specs.CommandLine.{request_of, usage_line}
 use Rattle.uvl_run.specs.declared.status.Status.{Status}
 use Rattle.uvl_run.specs.declared.status.Status.TheVariants.{Usage, Model, OverBudget}
-use Rattle.uvl_run.specs.Budget.{nodes_for, budget_line}
-use Rattle.uvl_run.specs.Loading.{LoadsModel, LoadsFault, fault_in}
+use Rattle.uvl_run.specs.Budget.{IsShortFor, budget_line}
+use Rattle.uvl_run.specs.Loading.{LoadsSet, LoadsFault}
+use Rattle.uvl_run.specs.Models.{products_of}
 use Rattle.uvl_run.specs.Outside.{Object, Outside, the_files, the_input, the_output, has_failed, seen}
 use Rattle.uvl_run.specs.Replies.{Reply, Fetches}
-use Rattle.uvl_run.specs.Run.{NamesModel, IsFaulty, IsOverBudget, IsAccepted, SaysLine, EndsRun, Answers, fault_line, words_refused, model_faulty, over_budget, model_unread, starved, script_answered}
+use Rattle.uvl_run.specs.Run.{NamesModel, IsFaulty, IsAccepted, SaysLine, EndsRun, Answers, fault_line, words_refused, model_faulty, over_budget, model_unread, starved, script_answered}
 use Rattle.uvl_run.specs.State.{State, start_of, IsStart}
 use Rattle.uvl_run.specs.Status.{Outcome, outcome_of}
 use Rattle.uvl_run.specs.steps.Says.{WritesLine}
@@ -150,18 +155,18 @@ module _ (words : List (List ℕ)) (told : Option Contents) (left w w' : Option 
   refused status none = says_once usage_line Usage status (λ said o says. words_refused none refl says)
 
   -- the model has a fault
-  pub faulty : (path : List ℕ) (budget : ℕ) (place : Place) (kind : FaultKind) (status : Status) → NamesModel words path budget → LoadsFault told path place kind
-      → WritesLine (fault_line (fault_in path place kind)) Model w w' output output' status → Answers words told (seen left w files input output) (seen left w' files input output') status
-  faulty path budget place kind status named fault =
-      let is : IsFaulty words told path place kind = record { budget = budget; named = named; faulty = fault } in
-      says_once (fault_line (fault_in path place kind)) Model status (λ said o says. model_faulty path place kind is refl says)
+  pub faulty : (path : List ℕ) (budget : ℕ) (fault : ModelFault) (status : Status) → NamesModel words path budget → LoadsFault told path fault
+      → WritesLine (fault_line fault) Model w w' output output' status → Answers words told (seen left w files input output) (seen left w' files input output') status
+  faulty path budget fault status named has =
+      let is : IsFaulty words told fault = record { path = path; budget = budget; named = named; faulty = has } in
+      says_once (fault_line fault) Model status (λ said o says. model_faulty fault is refl says)
 
-  -- the budget is too small for the model
-  pub short : (path : List ℕ) (budget : ℕ) (tree : Tree) (status : Status) → NamesModel words path budget → LoadsModel told path tree → budget < nodes_for tree
+  -- the budget is too small for the products of the model
+  pub short : (path : List ℕ) (budget : ℕ) (set : List Loaded) (status : Status) → NamesModel words path budget → LoadsSet told path set → IsShortFor set budget
       → WritesLine budget_line OverBudget w w' output output' status → Answers words told (seen left w files input output) (seen left w' files input output') status
-  short path budget tree status named loads few =
-      let is : IsOverBudget words told tree budget = record { path = path; named = named; loads = loads; short = few } in
-      says_once budget_line OverBudget status (λ said o says. over_budget tree budget is refl says)
+  short path budget set status named loads few =
+      let is : IsAccepted words told set budget = record { path = path; named = named; loads = loads } in
+      says_once budget_line OverBudget status (λ said o says. over_budget set budget is few refl says)
 
 module _ (words : List (List ℕ)) (told : Option Contents) (left w : Option (List ℕ)) (files files' input output : ℕ) where
   -- the host failed while the model was read
@@ -195,19 +200,19 @@ counted_as before now a b same counted = let P : Bool → Type 0 = λ failed. Co
 
 module _ (words : List (List ℕ)) (told : Option Contents) (left left' w w' : Option (List ℕ)) (files files' input input' output output' : ℕ) where
   -- the script was answered
-  pub answered : (path : List ℕ) (budget : ℕ) (tree : Tree) (start : State) (ending : Ending) (status : Status) → NamesModel words path budget → LoadsModel told path tree → nodes_for tree ≤ budget
-      → IsStart tree budget start → AnswersLines Reply Fetches start left left' w w' ending → status ≡ (outcome_of ending).status
+  pub answered : (path : List ℕ) (budget : ℕ) (set : List Loaded) (start : State) (ending : Ending) (status : Status) → NamesModel words path budget → LoadsSet told path set
+      → IsStart set budget start → AnswersLines Reply Fetches start left left' w w' ending → status ≡ (outcome_of ending).status
       → Counts files files' (is_fetch_failed ending) → Counts input input' (is_input_failed ending) → Counts output output' (is_write_failed ending)
       → Answers words told (seen left w files input output) (seen left' w' files' input' output') status
-  answered path budget tree start ending status named loads enough starts run is files_counted input_counted output_counted =
-      let accepted : IsAccepted words told tree budget = record { path = path; named = named; loads = loads; enough = enough } in
+  answered path budget set start ending status named loads starts run is files_counted input_counted output_counted =
+      let accepted : IsAccepted words told set budget = record { path = path; named = named; loads = loads } in
       record {
         taken = run.taken;
         said = run.said;
         failed = (outcome_of ending).failed;
         moved = run.moved;
         wrote = run.wrote;
-        ends = script_answered tree budget start ending accepted starts run.ends (outcome_is ending status is);
+        ends = script_answered set budget start ending accepted starts run.ends (outcome_is ending status is);
         counted = record {
           files = counted_as files files' _ _ (fetch_failed_is ending) files_counted;
           input = counted_as input input' _ _ (input_failed_is ending) input_counted;
@@ -225,11 +230,14 @@ from_loaded words told told' left w files files' input output now status same_to
 
 -- ---- the model
 
--- the model of a tree wants as many nodes as the tree
-pub nodes_of : (rows : Rows) (tree : Tree) → Products rows ≡ ProductsOfTree tree → most_nodes_of rows ≡ nodes_for tree
-nodes_of rows tree same =
-    ap (λ (n : ℕ). nodes_per_feature * n) (sym (length-map rows.features (λ row. row.name)) ∙ ap (λ (f : Family). length f.names) same)
+-- the products of the rows that a set of files says are those of the set
+pub products_are : FlatKeepsProducts → (files : List Loaded) (rows : Rows) → Flat files rows → products_of files ≡ Some (Products rows)
+products_are keeps files rows flat =
+    ap (λ (t : Option Tree). of_both ProductsOf t (main_constraints files)) flat.placed
+    ∙ ap (λ (cs : Option (List Constraint)). of_both ProductsOf (Some flat.tree) cs) flat.constraints
+    ∙ ap (λ (f : Family). Some f) (sym (keeps files rows flat.tree (constraints_of rows) flat flat.placed flat.constraints))
 
--- and its state is one in front of the first line
-pub starts_with : (rows : Rows) (tree : Tree) (budget : ℕ) (state : State) → Products rows ≡ ProductsOfTree tree → state ≡ start_of rows budget → IsStart tree budget state
-starts_with rows tree budget state same is = record { products = ap (λ (s : State). Products s.main) is ∙ same; table = ap (λ (s : State). s.budget) is }
+-- and the state of such rows is one in front of the first line
+pub starts_with : FlatKeepsProducts → (files : List Loaded) (rows : Rows) (budget : ℕ) (state : State) → Flat files rows → state ≡ start_of rows budget → IsStart files budget state
+starts_with keeps files rows budget state flat is =
+    record { products = products_are keeps files rows flat ∙ ap (λ (s : State). Some (Products s.main)) (sym is); table = ap (λ (s : State). s.budget) is }

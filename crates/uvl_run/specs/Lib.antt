@@ -4,10 +4,10 @@ pub mod Exactly
 pub mod InMemory
 pub mod Laws
 pub mod Loading
+pub mod Models
 pub mod Outside
 pub mod Products
 pub mod Replies
-pub mod RuleLists
 pub mod Run
 pub mod State
 pub mod Status

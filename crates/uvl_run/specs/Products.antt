@@ -2,9 +2,9 @@
 use Rattle.std.specs.Prelude.{◌≡◌, ℕ, Bool, List, if◌then◌else◌, Option, Some, None, codes}
 use Rattle.std.specs.List.{list_all}
 use Rattle.uvl_lines.specs.Replies.{refused}
-use Rattle.uvl_tree_model.specs.Family.{Family, is_void}
-use Rattle.uvl_tree_model.specs.Product.{has}
-use Rattle.uvl_tree_model.specs.Products.{Products}
+use Rattle.uvl_model.specs.Products.{Products}
+use Rattle.uvl_semantics.specs.Family.{Family, is_void}
+use Rattle.uvl_semantics.specs.Product.{has}
 use Rattle.uvl_run.specs.State.{State}
 use Rattle.uvl_run.specs.YesOrNo.{yes_or_no}
 

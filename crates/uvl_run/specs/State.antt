@@ -1,8 +1,9 @@
 -- What the lines of a script are answered from, and what they may change. This project's own.
-use Rattle.std.specs.Prelude.{◌≡◌, ℕ}
-use Rattle.uvl_tree_model.specs.Products.{Products, ProductsOfTree}
-use Rattle.uvl_tree_model.specs.Rows.{Rows}
-use Rattle.uvl_tree_model.specs.Tree.{Tree}
+use Rattle.std.specs.Prelude.{◌≡◌, ℕ, List, Some}
+use Rattle.uvl_imports.specs.declared.file_set.Loaded.{Loaded}
+use Rattle.uvl_model.specs.Products.{Products}
+use Rattle.uvl_model.specs.Rows.{Rows}
+use Rattle.uvl_run.specs.Models.{products_of}
 
 -- the main model, and how many nodes the table of diagrams may hold
 pub record State : Type 0 where
@@ -13,7 +14,7 @@ pub record State : Type 0 where
 abbrev pub start_of : Rows → ℕ → State
 start_of main budget = record { main = main; budget = budget }
 
--- this is one, where the model has the products of the tree
-pub record IsStart (tree : Tree) (budget : ℕ) (s : State) : Type 0 where
-  pub products : Products s.main ≡ ProductsOfTree tree
+-- this is one, where the main model has the products of these files
+pub record IsStart (files : List Loaded) (budget : ℕ) (s : State) : Type 0 where
+  pub products : products_of files ≡ Some (Products s.main)
   pub table : s.budget ≡ budget

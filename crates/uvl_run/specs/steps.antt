@@ -1,5 +1,4 @@
 -- What private functions do, in their own terms.
 pub mod Compiled
-pub mod LoadFaults
 pub mod Loads
 pub mod Says

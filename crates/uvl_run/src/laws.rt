@@ -1,18 +1,22 @@
 //! Laws of the definitions. The functions do nothing: what they ensure is the law.
-ghost use Rattle.uvl_run.specs.Laws.{EachContentIsLoadedOnce};
+ghost use Rattle.uvl_run.specs.Laws.{EachMainFileIsLoadedOnce, NineFeaturesAreNeverTooMany};
 
-use uvl_lexer::{every_text_is_read_once, tokens_are_a_list};
-use uvl_parser::every_token_list_is_parsed_once;
-use uvl_tree_resolve::{files_are_built_or_have_a_cause, files_have_one_tree};
+use uvl_imports::all_files_load_or_have_a_fault;
+use uvl_resolve::flat_keeps_products;
+use uvl_scope::each_set_has_one_answer;
 
-/// Whatever is at a path, it is the model of one tree or has one fault at one place, and never both.
-/// It follows from the laws of the layers.
-pub fn every_content_is_loaded_once()
-    ensures { EachContentIsLoadedOnce }
+/// Whatever is at the paths of files, a main file is that of one set in which nothing is wrong, or has one
+/// fault, and never both. It follows from the laws of the layers.
+pub fn every_main_file_is_loaded_once()
+    ensures { EachMainFileIsLoadedOnce }
 {
-    every_text_is_read_once();
-    tokens_are_a_list();
-    every_token_list_is_parsed_once();
-    files_have_one_tree();
-    files_are_built_or_have_a_cause();
+    all_files_load_or_have_a_fault();
+    each_set_has_one_answer();
+}
+
+/// The budget where none is given is enough for every model of up to nine features.
+pub fn nine_features_are_never_too_many()
+    ensures { NineFeaturesAreNeverTooMany }
+{
+    flat_keeps_products();
 }

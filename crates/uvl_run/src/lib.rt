@@ -1,4 +1,4 @@
-//! The top call: a model file, and then a script that is answered line by line.
+//! The top call: the files of a model, and then a script that is answered line by line.
 #![tactic(auto)]
 
 mod in_memory;
@@ -6,12 +6,11 @@ mod laws;
 mod load;
 mod products;
 mod reply;
-mod rule_lists;
 mod state;
 mod status;
 mod top;
 
 pub use in_memory::run_in_memory;
-pub use laws::every_content_is_loaded_once;
+pub use laws::{every_main_file_is_loaded_once, nine_features_are_never_too_many};
 pub use status::Status;
 pub use top::run;

@@ -1,40 +1,42 @@
 //! The state of a run, from which the lines of its script are answered.
-ghost use Rattle.std.specs.Prelude.{◌≡◌, ◌≤◌, ◌<◌, ◌↔◌, ℕ, length, slice_get, is_some, IfOk, IfSome, IsTrue, Some};
-ghost use Rattle.std.specs.List.{list_all};
-ghost use Rattle.uvl_tree_compile.specs.Nodes.{most_nodes_of};
-ghost use Rattle.uvl_tree_model.specs.Family.{is_void};
-ghost use Rattle.uvl_tree_model.specs.Marks.{StandFor};
-ghost use Rattle.uvl_tree_model.specs.OptionalGroups.{GroupsAreMandatoryOrOptional};
-ghost use Rattle.uvl_tree_model.specs.Product.{has};
-ghost use Rattle.uvl_tree_model.specs.Products.{Products};
-ghost use Rattle.uvl_tree_model.specs.Spelling.{numbered};
+ghost use Rattle.std.specs.Prelude.{◌≡◌, ◌≤◌, ◌<◌, ◌↔◌, ℕ, [], length, slice_get, is_some, IfOk, IfErr, IfSome, IsTrue, Some};
+ghost use Rattle.std.specs.List.{All, list_all};
+ghost use Rattle.dd_store.specs.Follow.{assignment_of};
+ghost use Rattle.dd_store.specs.Order.{IsDistinct};
+ghost use Rattle.dd_store.specs.Table.{handles_on};
+ghost use Rattle.uvl_functions.specs.Variables.{marks_under};
+ghost use Rattle.uvl_model.specs.Comparisons.{HaveNoComparison};
+ghost use Rattle.uvl_model.specs.Marks.{StandFor};
+ghost use Rattle.uvl_model.specs.Products.{Products};
+ghost use Rattle.uvl_model.specs.Spelling.{numbered};
+ghost use Rattle.uvl_semantics.specs.Family.{is_void};
+ghost use Rattle.uvl_semantics.specs.Product.{has};
 ghost use Rattle.uvl_words.specs.Budgets.{least_budget, most_budget};
 ghost use Rattle.uvl_run.specs.Products.{product_answer};
 ghost use Rattle.uvl_run.specs.Replies.{Reply, Fetches};
 ghost use Rattle.uvl_run.specs.State.{start_of};
+ghost use Rattle.uvl_run.specs.steps.Compiled.{IsCompiled, IsCauseFor};
 
 use crate::products::{answer_valid, answer_void};
-use dd_store::{Handle, Store};
-use std::alloc::{AllocError, Global};
+use dd_apply::Kernel;
+use dd_store::{Refusal, Var};
+use std::alloc::Global;
 use uvl_base::Name;
+use uvl_compile::{Compiled, Names, PlaceRefusal, compile, enough_is_enough};
 use uvl_lines::{AnswerFault, Answerer};
+use uvl_model::{FeatureNo, Model, marks_give_products, products_are_sets, rows_give_names};
 use uvl_outside::Files;
 use uvl_script::Command;
-use uvl_tree_compile::{add_variables, compile, marks_choose_features};
-use uvl_tree_model::{
-    FeatureNo, Model, marks_give_products, products_are_sets, void_families_have_no_set,
-};
+use uvl_semantics::void_families_have_no_set;
 
-/// The main model, and the table of diagrams with that of its products. Contracts see the
+/// The one table of diagrams, and the main model with its diagram in it. Contracts see the main
 /// model and the budget of the table.
 #[derive(Drop)]
 pub(crate) struct State {
-    model: Model,
-    store: Store,
-    /// The features with a true variable are a product.
-    products: Handle,
-    /// Room for a mark per feature, kept from line to line.
-    chosen: Vec<bool>,
+    kernel: Kernel,
+    main: Compiled,
+    /// Room for a mark per variable, kept from line to line.
+    assignment: Vec<bool>,
 }
 
 impl std::marker::Model for State {
@@ -44,31 +46,34 @@ impl std::marker::Model for State {
 
     ghost Value = { State };
 
-    ghost view = { λ s. start_of s.model s.store.budget };
+    ghost use Rattle.std.specs.Coded.{codes};
+    ghost use Rattle.uvl_ast.specs.contracts.feature.Attribute as attribute;
+    ghost use Rattle.uvl_model.specs.contracts.rule.Rule as rule;
 
-    ghost invariant = { λ s. IsCompiled s.model s.store s.products × (vec_len s.chosen ≡ length s.model.features) };
+    ghost coded = { Prim.hlevel (codes, attribute.the_row.coded, rule.the_row.coded) };
+
+    ghost view = { λ s. start_of s.main.model s.kernel.budget };
+
+    ghost invariant = { λ s. IsCompiled s.main.model s.kernel s.main.map s.main.products
+        × (vec_len s.assignment ≡ length s.kernel.order) };
 }
 
 impl State {
-    /// The state in front of the first line: the model is compiled in a table that may hold so many
-    /// nodes.
-    pub(crate) fn new(alloc: Global, model: Model, budget: u32) -> Result<State, AllocError>
-        requires groups { GroupsAreMandatoryOrOptional model }
+    /// The state in front of the first line: the model is compiled in a table that may hold so many nodes.
+    pub(crate) fn new(alloc: Global, model: Model, budget: u32) -> Result<State, Refusal>
+        requires boolean { HaveNoComparison model }
         requires least { least_budget ≤ budget }
         requires most { budget ≤ most_budget }
-        requires enough { most_nodes_of model ≤ budget }
-        ensures { IfOk result (λ state. state ≡ start_of model budget) }
+        ensures start { IfOk result (λ state. state ≡ start_of model budget) }
+        ensures cause { IfErr result (IsCauseFor model budget) }
     {
-        let features = model.features().len();
-        let mut store = Store::new(alloc, budget)?;
-        add_variables(alloc, &mut store, features)?;
-        let products = compile(alloc, &mut store, &model)?;
-        let chosen = vec![in alloc; false; features]?;
+        let mut kernel = Kernel::new(alloc, budget)?;
+        let main = compiled(alloc, &mut kernel, model)?;
+        let assignment = vec![in alloc; false; kernel.variables() as usize]?;
         Ok(State {
-            model,
-            store,
-            products,
-            chosen,
+            kernel,
+            main,
+            assignment,
         })
     }
 
@@ -77,14 +82,14 @@ impl State {
         ensures answer { result ≡ product_answer (Products self.old.main) names.now }
         ensures same { self.new ≡ self.old }
     {
-        // Laws, and that the model is sound: they are facts for the proof.
-        marks_choose_features();
+        // A law, and that the model is sound: they are facts for the proof.
         marks_give_products();
-        self.model.features();
-        if !mark(&self.model, &mut self.chosen, names) {
+        self.main.model.features();
+        let vars = self.main.map.vars();
+        if !mark(&self.main.model, vars, &mut self.assignment, names) {
             return None;
         }
-        Some(self.store.value(&self.products, &self.chosen))
+        Some(self.kernel.value(&self.main.products, &self.assignment))
     }
 
     /// Whether there is no product.
@@ -92,28 +97,60 @@ impl State {
         ensures { result ≡ is_void (Products self.now.main) }
     {
         // Laws, which are facts for the proof.
-        marks_choose_features();
         products_are_sets();
         void_families_have_no_set();
-        match self.store.constant_of(&self.products) {
+        match self.kernel.constant_of(&self.main.products) {
             Some(value) => !value,
             None => false,
         }
     }
 }
 
-/// Marks the named features alone. The answer says whether each name is that of a feature.
-fn mark(model: &Model, chosen: &mut [bool], names: &[Name]) -> bool
-    requires { length chosen.old ≡ length model.now.features }
-    ensures known { result ≡ list_all (has (Products model.now).names) names.now }
-    ensures marked { IsTrue result → StandFor (Products model.now).names chosen.new names.now }
+/// The model with its diagram, in a table without variables.
+fn compiled(alloc: Global, kernel: &mut Kernel, model: Model) -> Result<Compiled, Refusal>
+    requires boolean { HaveNoComparison model }
+    requires empty { kernel.old.order ≡ [] }
+    requires none_live { (n : ℕ) → handles_on kernel.old n ≡ 0 }
+    ensures model { IfOk result (λ compiled. compiled.model ≡ model) }
+    ensures budget { kernel.new.budget ≡ kernel.old.budget }
+    ensures diagram { IfOk result
+        (λ compiled. IsCompiled compiled.model kernel.new compiled.map compiled.products) }
+    ensures cause { IfErr result (IsCauseFor model kernel.old.budget) }
 {
-    chosen.fill(false);
+    // Laws, and that the model is sound: they are facts for the proof.
+    rows_give_names();
+    enough_is_enough();
+    model.features();
+    let mut names = Names::new(alloc);
+    let map = match names.place(kernel, alloc, &model) {
+        Ok(map) => map,
+        Err(PlaceRefusal::OutOfMemory) => return Err(Refusal::OutOfMemory),
+        Err(PlaceRefusal::TooManyVariables { .. }) => unreachable!(),
+    };
+    let products = compile(kernel, alloc, &model, &map)?;
+    Ok(Compiled {
+        model,
+        map,
+        products,
+    })
+}
+
+/// Marks the variables of the named features alone. The answer says whether each name is that of a feature.
+fn mark(model: &Model, vars: &[Var], assignment: &mut [bool], names: &[Name]) -> bool
+    requires count { length vars.now ≡ length model.now.features }
+    requires there { All (λ v. v.0 < length assignment.old) vars.now }
+    requires distinct { IsDistinct vars.now }
+    ensures known { result ≡ list_all (has (Products model.now).names) names.now }
+    ensures marked { IsTrue result → StandFor (Products model.now).names
+        (marks_under vars.now (assignment_of assignment.new)) names.now }
+{
+    assignment.fill(false);
     for name in names {
         let Some(feature) = find(model, name) else {
             return false;
         };
-        chosen[feature.0 as usize] = true;
+        let variable = vars[feature.0 as usize];
+        assignment[variable.0 as usize] = true;
     }
     true
 }

@@ -1,25 +1,25 @@
 //! The top call.
-ghost use Rattle.std.specs.Prelude.{◌≡◌, ◌≤◌, ℕ, nat_lt, List, map, IfOk, string_bytes};
-ghost use Rattle.uvl_tree_compile.specs.Nodes.{most_nodes_of};
-ghost use Rattle.uvl_tree_model.specs.OptionalGroups.{GroupsAreMandatoryOrOptional};
+ghost use Rattle.std.specs.Prelude.{◌≡◌, ◌≤◌, ℕ, List, map, IfOk, string_bytes};
+ghost use Rattle.uvl_model.specs.Comparisons.{HaveNoComparison};
 ghost use Rattle.uvl_words.specs.Budgets.{least_budget, most_budget};
 ghost use Rattle.uvl_run.specs.Exactly.{IsExact};
-ghost use Rattle.uvl_run.specs.Loading.{fault_in};
 ghost use Rattle.uvl_run.specs.Outside.{seen};
 ghost use Rattle.uvl_run.specs.Run.{Answers, NamesModel, fault_line};
 ghost use Rattle.uvl_run.specs.steps.Loads.{IsLoaded};
 ghost use Rattle.uvl_run.specs.steps.Says.{WritesLine};
 
 use crate::Status;
-use crate::laws::every_content_is_loaded_once;
-use crate::load::{LoadFault, load_model};
+use crate::laws::every_main_file_is_loaded_once;
+use crate::load::load_model;
 use crate::state::State;
+use dd_store::Refusal;
 use std::alloc::{AllocError, Global};
-use uvl_base::{FaultKind, ModelFault, Place, Text};
+use uvl_base::ModelFault;
+use uvl_imports::LoadFault;
 use uvl_lines::{Ending, answer_lines};
+use uvl_model::Model;
 use uvl_outside::{Files, Sink, Source};
-use uvl_tree_compile::NODES_PER_FEATURE;
-use uvl_tree_model::Model;
+use uvl_resolve::flat_keeps_products;
 use uvl_words::{Request, USAGE_LINE, read_words};
 
 /// What is written where the budget is too small for the model.
@@ -50,7 +50,7 @@ pub fn run<F: Files, S: Source, K: Sink>(
     ensures same_files { F.told files.new ≡ F.told files.old }
 {
     // A law, which is a fact for the proof.
-    every_content_is_loaded_once();
+    every_main_file_is_loaded_once();
     answer_words(alloc, words, files, input, out)
 }
 
@@ -78,7 +78,7 @@ fn answer_words<F: Files, S: Source, K: Sink>(
     }
 }
 
-/// Loads the model at the path, and answers the script by it.
+/// Loads the model whose main file is at the path, and answers the script by it.
 fn answer_model<F: Files, S: Source, K: Sink>(
     alloc: Global,
     path: &str,
@@ -97,13 +97,13 @@ fn answer_model<F: Files, S: Source, K: Sink>(
 {
     match load_model(alloc, files, path) {
         Ok(model) => answer_by_model(alloc, model, budget, files, input, out),
-        Err(LoadFault::Model { place, kind }) => report(alloc, path, place, kind, out),
-        Err(LoadFault::Host) => Status::from(Ending::FetchFailed),
+        Err(LoadFault::Model(fault)) => report(alloc, &fault, out),
+        Err(LoadFault::ReadFault) => Status::from(Ending::FetchFailed),
         Err(LoadFault::OutOfMemory) => Status::from(Ending::NoMemory),
     }
 }
 
-/// Compiles a model, where the budget suffices, and answers the script by it.
+/// Compiles a model, and answers the script by it. Where the budget is too small for that, the one line says so.
 fn answer_by_model<F: Files, S: Source, K: Sink>(
     alloc: Global,
     model: Model,
@@ -112,7 +112,7 @@ fn answer_by_model<F: Files, S: Source, K: Sink>(
     input: &mut S,
     out: &mut K,
 ) -> Status
-    requires groups { GroupsAreMandatoryOrOptional model }
+    requires boolean { HaveNoComparison model }
     requires least { least_budget ≤ budget }
     requires most { budget ≤ most_budget }
     ensures answers { (words : List (List ℕ)) (path : List ℕ) → NamesModel words path budget →
@@ -122,40 +122,31 @@ fn answer_by_model<F: Files, S: Source, K: Sink>(
         result }
     ensures same_files { F.told files.new ≡ F.told files.old }
 {
-    if is_over_budget(&model, budget) {
-        return write_line(alloc, BUDGET_LINE, Status::OverBudget, out);
-    }
+    // A law, which is a fact for the proof.
+    flat_keeps_products();
     match State::new(alloc, model, budget) {
         Ok(mut state) => Status::from(answer_lines(alloc, &mut state, files, input, out)),
-        Err(_) => Status::from(Ending::NoMemory),
+        Err(Refusal::OverBudget { .. }) => write_line(alloc, BUDGET_LINE, Status::OverBudget, out),
+        Err(Refusal::OutOfMemory) => Status::from(Ending::NoMemory),
     }
 }
 
-/// Whether the diagram of the model's products may want more nodes than the budget.
-fn is_over_budget(model: &Model, budget: u32) -> bool
-    ensures { result ≡ nat_lt budget (most_nodes_of model.now) }
-{
-    (budget as usize) < NODES_PER_FEATURE * model.features().len()
-}
-
-/// Writes the fault line of a fault of the file at `path`.
-fn report<K: Sink>(alloc: Global, path: &str, place: Place, kind: FaultKind, out: &mut K) -> Status
-    ensures { WritesLine (fault_line (fault_in path.now place kind)) Status.Model
+/// Writes the fault line of a fault.
+fn report<K: Sink>(alloc: Global, fault: &ModelFault, out: &mut K) -> Status
+    ensures { WritesLine (fault_line fault.now) Status.Model
         (K.written out.old) (K.written out.new) (K.faults out.old) (K.faults out.new) result }
 {
-    match line_of(alloc, path, place, kind) {
+    match line_of(alloc, fault) {
         Ok(line) => write_line(alloc, line.as_str(), Status::Model, out),
         Err(_) => Status::from(Ending::NoMemory),
     }
 }
 
-/// The fault line of a fault of the file at `path`.
+/// The fault line of a fault.
 #[tactic(auto, unfolding(crate::specs::Run::fault_line))]
-fn line_of(alloc: Global, path: &str, place: Place, kind: FaultKind) -> Result<String, AllocError>
-    ensures { IfOk result (λ line. string_bytes line ≡ fault_line (fault_in path.now place kind)) }
+fn line_of(alloc: Global, fault: &ModelFault) -> Result<String, AllocError>
+    ensures { IfOk result (λ line. string_bytes line ≡ fault_line fault.now) }
 {
-    let file = Text::new(alloc, path)?;
-    let fault = ModelFault { file, place, kind };
     format!(in alloc; "fault {fault}\n")
 }
 

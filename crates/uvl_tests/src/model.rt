@@ -1,13 +1,13 @@
 //! The definitions on small trees, names by their numbers, and the answers of a thin model.
 ghost use Rattle.std.specs.Prelude.{◌≡◌, [], ◌∷◌, true, false, codes};
-ghost use Rattle.uvl_tree_model.specs.Family.{is_void};
-ghost use Rattle.uvl_tree_model.specs.Products.{ProductsOfTree};
+ghost use Rattle.uvl_semantics.specs.Family.{ProductsOf, is_void};
+ghost use Rattle.uvl_model.specs.Comparisons.{HaveNoComparison};
 ghost use Rattle.uvl_tests.specs.Examples.{thin_tree, two_or_three, unfittable, void_tree, products_of};
 
 use crate::texts::{PRODUCTS_OF_THIN, THIN, model_of};
 use std::process::Abort;
 use std::test::Fail;
-use uvl_tree_model::{FeatureNo, Model, NameIndex};
+use uvl_model::{FeatureNo, Model, NameIndex};
 
 /// The definitions on the examples. What it ensures is all of it.
 fn products_of_examples()
@@ -19,11 +19,13 @@ fn products_of_examples()
         ∷ (codes "R" ∷ codes "A" ∷ codes "C" ∷ [])
         ∷ (codes "R" ∷ codes "B" ∷ codes "C" ∷ []) ∷ [] }
     ensures never_met { products_of unfittable ≡ (codes "R" ∷ []) ∷ [] }
-    ensures not_void { is_void (ProductsOfTree unfittable) ≡ false }
-    ensures void { is_void (ProductsOfTree void_tree) ≡ true }
+    ensures not_void { is_void (ProductsOf unfittable []) ≡ false }
+    ensures void { is_void (ProductsOf void_tree []) ≡ true }
 {}
 
-fn expect_products(rt: &impl Abort, model: &Model, rows: &[(&[bool], bool)]) {
+fn expect_products(rt: &impl Abort, model: &Model, rows: &[(&[bool], bool)])
+    requires { HaveNoComparison model.now }
+{
     for (chosen, product) in rows {
         assert!(rt; chosen.len() == model.features().len());
         assert!(rt; model.is_product(chosen) == *product, "{chosen:?}");
@@ -46,7 +48,7 @@ fn expect_found(rt: &impl Abort, model: &Model, rows: &[(&str, Option<FeatureNo>
 #[test]
 fn a_thin_model_finds_its_features_and_knows_its_products(rt: HostRuntime) -> Result<(), Fail> {
     products_of_examples();
-    let model = model_of(rt.alloc(), THIN)??;
+    let model = model_of(rt.alloc(), THIN)?;
     expect_found(&rt, &model, &FOUND);
     expect_products(&rt, &model, &PRODUCTS_OF_THIN);
     assert_eq!(rt; model.groups().len(), 2);

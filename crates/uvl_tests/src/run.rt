@@ -19,8 +19,12 @@ type Failing<'a> = [&'a [u64]; 3];
 /// No call fails.
 const NEVER: Failing<'static> = [&[], &[], &[]];
 
-/// A run over files of which `thin.uvl` is a model and `or.uvl` is none, by input in pieces of these
-/// sizes. What is written comes into the buffer.
+/// A model whose products take more than sixteen nodes.
+const WIDE: &[u8] =
+    b"features\n\tA\n\t\talternative\n\t\t\tB\n\t\t\tC\n\t\t\tD\n\t\t\tE\n\t\t\tF\n\t\t\tG\n\t\t\tH\n\t\t\tI\n\t\t\tJ\n\t\t\tK\n";
+
+/// A run over files of which `thin.uvl` and `wide.uvl` are models, `numbers.uvl` is none yet, and `in.uvl` imports
+/// a file with a fault, by input in pieces of these sizes. What is written comes into the buffer.
 fn run_with(
     alloc: Global,
     words: &[&str],
@@ -31,7 +35,14 @@ fn run_with(
 ) -> Result<Status, Fail> {
     let mut files = MemFiles::new(alloc, fail[0])?;
     files.add(alloc, "thin.uvl", THIN.as_bytes())?;
-    files.add(alloc, "or.uvl", b"features\n\tA\n\t\tor\n\t\t\tB\n")?;
+    files.add(alloc, "wide.uvl", WIDE)?;
+    files.add(
+        alloc,
+        "numbers.uvl",
+        b"features\n\tA\nconstraints\n\t1 < 2\n",
+    )?;
+    files.add(alloc, "in.uvl", b"imports\n\tparts\nfeatures\n\tA\n")?;
+    files.add(alloc, "parts.uvl", b"features\n\tA\n\t\tor\n\t\t\tA\n")?;
     let mut input = MemSource::new(alloc, script, sizes, fail[1])?;
     let mut sink = MemSink::new(alloc, fail[2])?;
     let status = run(alloc, words, &mut files, &mut input, &mut sink);
@@ -43,17 +54,17 @@ fn run_with(
 /// Words, what fails, the status and its number, and what is written.
 type Row<'a> = (&'a [&'a str], Failing<'a>, Status, u8, &'a [u8]);
 
-const ROWS: [Row; 12] = [
+const ROWS: [Row; 14] = [
     (&["thin.uvl"], NEVER, Status::Done, 0, REPLIES),
     (
-        &["--budget", "192", "thin.uvl"],
+        &["--budget", "16", "thin.uvl"],
         NEVER,
         Status::Done,
         0,
         REPLIES,
     ),
     (
-        &["--budget", "191", "thin.uvl"],
+        &["--budget", "16", "wide.uvl"],
         NEVER,
         Status::OverBudget,
         6,
@@ -69,12 +80,21 @@ const ROWS: [Row; 12] = [
         b"fault no.uvl:1:1 E01 Absent\n",
     ),
     (
-        &["or.uvl"],
+        &["numbers.uvl"],
         NEVER,
         Status::Model,
         3,
-        b"fault or.uvl:1:1 E99 NotBuilt\n",
+        b"fault numbers.uvl:1:1 E99 NotBuilt\n",
     ),
+    (
+        &["in.uvl"],
+        NEVER,
+        Status::Model,
+        3,
+        b"fault parts.uvl:4:4 E13 DuplicateFeature\n",
+    ),
+    // the second file of a set
+    (&["in.uvl"], [&[2], &[], &[]], Status::ReadFault, 4, b""),
     (&["thin.uvl"], [&[1], &[], &[]], Status::ReadFault, 4, b""),
     (&["thin.uvl"], [&[], &[1], &[]], Status::ReadFault, 4, b""),
     (
@@ -238,9 +258,13 @@ fn the_replies_do_not_depend_on_the_pieces(rt: HostRuntime) -> Result<(), Fail> 
     Ok(())
 }
 
+/// What is answered where no feature is called as the script calls them.
+const UNKNOWN: &[u8] =
+    b"refused unknown-feature\n.\nrefused unknown-feature\n.\nrefused unknown-feature\n.\n";
+
 /// Files of which a model is made, and the faults of others. The first is in another layout: a byte
 /// order mark, CR LF, and eight spaces for a tab; the second has a group below a member of a group.
-const FILES: [(&[u8], Status, &[u8]); 10] = [
+const FILES: [(&[u8], Status, &[u8]); 11] = [
     (
         b"\xEF\xBB\xBFfeatures\r\n        Car\r\n\t\tmandatory\r\n\t\t\tBody\r\n\t\toptional\r\n\t\t\tRadio\r\n",
         Status::Done,
@@ -257,15 +281,16 @@ const FILES: [(&[u8], Status, &[u8]); 10] = [
         REPLIES,
     ),
     (
-        b"features\n\tA\n\t\tor\n\t\t\tB\n",
-        Status::Model,
-        b"fault m.uvl:1:1 E99 NotBuilt\n",
+        b"features\n\tCar\n\t\tor\n\t\t\tBody\n\t\t\tRadio\nconstraints\n\tBody\n",
+        Status::Done,
+        REPLIES,
     ),
-    (b"", Status::Model, b"fault m.uvl:1:1 E99 NotBuilt\n"),
+    (b"", Status::Model, b"fault m.uvl:1:1 E28 MissingFeatures\n"),
+    (b"features\n\tA {constraints []}\n", Status::Done, UNKNOWN),
     (
-        b"features\n\tA {constraints []}\n",
+        b"features\n\tA\n\t\toptional\n\t\t\tA\n",
         Status::Model,
-        b"fault m.uvl:1:1 E99 NotBuilt\n",
+        b"fault m.uvl:4:4 E13 DuplicateFeature\n",
     ),
     (
         b"features\n\tA\n\xFF",
@@ -316,4 +341,27 @@ fn expect_files(
 #[test]
 fn each_file_has_its_answer_in_memory(rt: HostRuntime) -> Result<(), Fail> {
     expect_files(&rt, rt.alloc(), &FILES)
+}
+
+/// A car that places one radio twice, of which one of both is in each product, and a radio has DAB.
+const CAR: &[u8] =
+    b"imports\n\tparts.radio as x\n\tparts.radio as y\nfeatures\n\tCar\n\t\talternative\n\t\t\tx.Radio\n\t\t\ty.Radio\n";
+
+const RADIO: &[u8] = b"features\n\tRadio\n\t\toptional\n\t\t\tDAB\nconstraints\n\tRadio => DAB\n";
+
+#[test]
+fn a_model_of_two_files_is_answered(rt: HostRuntime) -> Result<(), Fail> {
+    let alloc = rt.alloc();
+    let mut files = SureFiles::new(alloc);
+    files.add(alloc, "car.uvl", CAR)?;
+    files.add(alloc, "parts/radio.uvl", RADIO)?;
+    let script =
+        b"void\nvalid Car x.Radio\nvalid Car x.Radio x.DAB\nvalid Car \"y.Radio\" y.DAB\nvalid Car Radio\n";
+    let mut input = SureSource::new(alloc, script)?;
+    let mut out = SureSink::new(alloc);
+    let ended = run_in_memory(alloc, &["car.uvl"], &mut files, &mut input, &mut out);
+    assert!(rt; ended == Status::Done);
+    let replies = b"no\n.\nno\n.\nyes\n.\nyes\n.\nrefused unknown-feature\n.\n";
+    assert!(rt; out.bytes() == replies.as_slice());
+    Ok(())
 }

@@ -1,17 +1,17 @@
-//! A small model, and the model of a text.
-ghost use Rattle.std.specs.Prelude.{◌≤◌, IfOk, IfSome};
-ghost use Rattle.uvl_ast.specs.Depth.{depth_of};
-ghost use Rattle.uvl_ast.specs.Members.{EachGroupHasMembers};
-ghost use Rattle.uvl_base.specs.Limits.{most_depth};
-ghost use Rattle.uvl_tree_model.specs.OptionalGroups.{GroupsAreMandatoryOrOptional};
+//! A small model, and the model of texts.
+ghost use Rattle.std.specs.Prelude.{IfOk};
+ghost use Rattle.uvl_model.specs.Comparisons.{HaveNoComparison};
 
 use std::alloc::Global;
+use std::fmt::Write;
 use std::test::Fail;
-use uvl_ast::File;
-use uvl_parser::parse;
-use uvl_text_tests::tokens::tokens_of;
-use uvl_tree_model::Model;
-use uvl_tree_resolve::{ResolveFault, resolve};
+use uvl_imports::load;
+use uvl_model::Model;
+use uvl_outside::SureFiles;
+use uvl_resolve::{ResolveFault, resolve};
+
+/// A path and the text of the file there.
+pub(crate) type Source<'a> = (&'a str, &'a str);
 
 /// A car with a mandatory body and an optional radio.
 pub(crate) const THIN: &str =
@@ -29,19 +29,43 @@ pub(crate) const PRODUCTS_OF_THIN: [(&[bool], bool); 8] = [
     (&[true, true, true], true),
 ];
 
-/// The file that a text spells.
-fn file_of(alloc: Global, text: &str) -> Result<File, Fail>
-    ensures shallow { IfOk result (λ file. IfSome file.root (λ root. depth_of root ≤ most_depth)) }
-    ensures members { IfOk result (λ file. IfSome file.root EachGroupHasMembers) }
+/// The model whose main file is `m.uvl` among these, or why its files, which load, have none.
+pub(crate) fn model_of_files(
+    alloc: Global,
+    sources: &[Source],
+) -> Result<Result<Model, String>, Fail>
+    ensures { IfOk result (λ answer. IfOk answer HaveNoComparison) }
 {
-    let tokens = tokens_of(alloc, text)?;
-    Ok(parse(alloc, &tokens)?)
+    let mut files = SureFiles::new(alloc);
+    for (path, text) in sources {
+        files.add(alloc, path, text.as_bytes())?;
+    }
+    let Ok(set) = load(alloc, &mut files, "m.uvl") else {
+        return Err(Fail::from("the files don't load"));
+    };
+    match resolve(alloc, &set) {
+        Ok(model) => Ok(Ok(model)),
+        Err(fault) => Ok(Err(shown(alloc, &fault)?)),
+    }
 }
 
-/// The model that the file of a text says, or why it says none.
-pub(crate) fn model_of(alloc: Global, text: &str) -> Result<Result<Model, ResolveFault>, Fail>
-    ensures { IfOk result (λ answer. IfOk answer GroupsAreMandatoryOrOptional) }
+/// A fault as the program shows it.
+fn shown(alloc: Global, fault: &ResolveFault) -> Result<String, Fail> {
+    let mut text = String::new(alloc);
+    match fault {
+        ResolveFault::Model(fault) => write!(text, "{fault}")?,
+        ResolveFault::NotBuilt => text.push_str("not built")?,
+        ResolveFault::OutOfMemory => return Err(Fail::from("out of memory")),
+    }
+    Ok(text)
+}
+
+/// The model of a file that imports nothing.
+pub(crate) fn model_of(alloc: Global, text: &str) -> Result<Model, Fail>
+    ensures { IfOk result HaveNoComparison }
 {
-    let file = file_of(alloc, text)?;
-    Ok(resolve(alloc, &file))
+    match model_of_files(alloc, &[("m.uvl", text)])? {
+        Ok(model) => Ok(model),
+        Err(_) => Err(Fail::from("the file has a fault")),
+    }
 }

@@ -1,16 +1,23 @@
 -- A model with the diagram of its products.
-use Rattle.std.specs.Prelude.{◌≡◌, ℕ, Bool, length}
+use Rattle.std.specs.Prelude.{◌≡◌, ℕ, Bool, List}
+use Rattle.dd_store.specs.declared.refusal.Refusal.{Refusal}
+use Rattle.dd_store.specs.declared.refusal.Refusal.TheVariants.{OverBudget, OutOfMemory}
+use Rattle.dd_store.specs.declared.row.Var.{Var}
 use Rattle.dd_store.specs.Table.{Table, IsLive, IsSound, value_of}
-use Rattle.uvl_tree_model.specs.Products.{Products}
-use Rattle.uvl_tree_model.specs.Rows.{Rows}
-use Rattle.uvl_tree_compile.specs.Chosen.{chosen_features}
-use Rattle.uvl_tree_compile.specs.Row.{IsAscending}
+use Rattle.uvl_functions.specs.Functions.{products_of}
+use Rattle.uvl_functions.specs.Variables.{HasVariables}
+use Rattle.uvl_model.specs.Rows.{Rows}
+use Rattle.uvl_run.specs.Budget.{IsShortForRows}
 
--- The table has one variable for each feature, in the order of the features, and the value of the live handle is
--- whether the features with a true variable are a product.
-pub record IsCompiled (rows : Rows) (t : Table) (products : ℕ) : Type 0 where
+-- The features have their variables in the table, and the value of the live handle is whether the features with a true
+-- variable are a product.
+pub record IsCompiled (rows : Rows) (t : Table) (vars : List Var) (products : ℕ) : Type 0 where
   pub sound : IsSound t
-  pub variables : length t.order ≡ length rows.features
-  pub ascending : IsAscending t.order (length rows.features)
+  pub variables : HasVariables t rows vars
   pub live : IsLive t products
-  pub value : (a : ℕ → Bool) → value_of t products a ≡ (Products rows).contains (chosen_features a rows)
+  pub value : (a : ℕ → Bool) → value_of t products a ≡ products_of vars rows a
+
+-- why a model isn't compiled in a table of its own; want of memory has no cause
+abbrev pub IsCauseFor : Rows → ℕ → Refusal → Type 0
+IsCauseFor rows budget (OverBudget nodes roots) = IsShortForRows rows budget
+IsCauseFor rows budget OutOfMemory = Unit {0}

@@ -15,11 +15,11 @@ pub returns-in-Err-Model-clause-answers : goal.returns-in-Err-Model-clause-answe
 returns-in-Err-Model-clause-answers g c = λ words named.
     let counted = rw c.in-Err-Model.field-0-is at c.in-Err-Model.ensures.counted in
     from_loaded words _ _ _ _ _ _ _ _ _ c.report.result refl counted.stays
-    (faulty words _ _ _ _ _ _ _ _ c.args.path.now c.args.budget c.in-Err-Model.place c.in-Err-Model.kind c.report.result named (rw c.in-Err-Model.field-0-is at c.in-Err-Model.ensures.fault) c.report.ensures)
+    (faulty words _ _ _ _ _ _ _ _ c.args.path.now c.args.budget c.in-Err-Model.fault c.report.result named (rw c.in-Err-Model.field-0-is at c.in-Err-Model.ensures.fault) c.report.ensures)
 
-pub returns-in-Err-Host-clause-answers : goal.returns-in-Err-Host-clause-answers
-returns-in-Err-Host-clause-answers g c = λ words named.
-    unread words _ _ _ _ _ _ _ c.args.path.now c.args.budget c.from.result named c.from.ensures (rw c.in-Err-Host.field-0-is at c.in-Err-Host.ensures.counted)
+pub returns-in-Err-ReadFault-clause-answers : goal.returns-in-Err-ReadFault-clause-answers
+returns-in-Err-ReadFault-clause-answers g c = λ words named.
+    unread words _ _ _ _ _ _ _ c.args.path.now c.args.budget c.from.result named c.from.ensures (rw c.in-Err-ReadFault.field-0-is at c.in-Err-ReadFault.ensures.counted)
 
 pub returns-in-Err-OutOfMemory-clause-answers : goal.returns-in-Err-OutOfMemory-clause-answers
 returns-in-Err-OutOfMemory-clause-answers g c = λ words named.

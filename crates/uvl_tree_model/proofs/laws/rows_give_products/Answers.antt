@@ -1,6 +1,0 @@
--- The check of the rows decides for the tree.
-use Rattle.uvl_tree_model.proofs.Families.{spelled_products}
-use Rattle.uvl_tree_model.proofs.laws.rows_give_products.Goals as goal
-
-pub returns : goal.returns
-returns c = spelled_products

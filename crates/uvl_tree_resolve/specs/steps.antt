@@ -1,2 +1,0 @@
--- What the steps of the code do, said again for the proofs. Only private contracts cite it.
-pub mod Walk
