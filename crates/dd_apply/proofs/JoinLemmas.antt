@@ -14,7 +14,7 @@ use Rattle.dd_apply.specs.declared.operation.Operation.{Operation}
 use Rattle.dd_apply.specs.declared.operation.Operation.TheVariants.{And, Or, Xor}
 use Rattle.dd_apply.specs.declared.question.Question.{Question}
 use Rattle.dd_apply.specs.declared.question.Question.TheVariants.{Binary, Ite, Implies}
-use Rattle.dd_apply.specs.Held.{IsHeld, IsCauseWithin, Trades, LosesBoth}
+use Rattle.dd_apply.specs.Held.{IsHeld, IsCauseWithin, HasBoth, Trades, LosesBoth}
 use Rattle.dd_apply.specs.Right.{IsRight, IsAsked}
 use Rattle.dd_apply.specs.Settled.{Settles, SettlesChoice}
 use Rattle.dd_apply.specs.Split.{fork}
@@ -55,6 +55,13 @@ made-right t u q v low high (Ok h) sound keeps gain asked value =
     asked-right t u q (fork v (value_at t low) (value_at t high)) h sound keeps (live_gained gain) asked
     (keeps.sound.reduced.live h (let each = gain.each h in let own = one_on-itself h in omega arith)) (λ j a. value a j)
 made-right t u q v low high (Err r) sound keeps gain asked value = tt
+
+-- what has live handles is there
+pub both-there : (t : Table) (low high : ℕ) → IsSound t → HasBoth t low high → IsThere (row_of t) low × IsThere (row_of t) high
+both-there t low high sound has = (
+  sound.reduced.live low (let here = has low in let own = one_on-itself low in omega arith),
+  sound.reduced.live high (let here = has high in let own = one_on-itself high in omega arith),
+)
 
 module _ (t u w x : Table) (low high v : ℕ) (first : LosesHandle u w low) (then' : LosesHandle w x high) where
   pub joined-traded : (result : Result ℕ Refusal) → IfOk result (GainsHandle t u) → IfOk result (Trades t x low high)

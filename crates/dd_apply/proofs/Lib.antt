@@ -2,6 +2,7 @@ pub mod ResultLemmas
 pub mod RightLemmas
 pub mod HeldLemmas
 pub mod RoomLemmas
+pub mod MadeLemmas
 pub mod StepLemmas
 pub mod JoinLemmas
 pub mod CombineLemmas

@@ -22,6 +22,8 @@ use Rattle.dd_store.proofs.TopLemmas.{tell-levels}
 use Rattle.dd_apply.specs.Held.{IsHeld, IsCauseWithin, HasBoth, Trades, LosesBoth}
 use Rattle.dd_apply.specs.Split.{fork}
 use Rattle.dd_apply.proofs.HeldLemmas.{held-there, held-step}
+use Rattle.dd_apply.specs.Made.{StaysUnlessFull}
+use Rattle.dd_apply.proofs.MadeLemmas.{stays-part, stays-then, stays-handles}
 use Rattle.dd_apply.proofs.RoomLemmas.{cause-behind, cause-stay}
 
 -- two variables of one level are the same
@@ -116,6 +118,15 @@ module _ (t m u : Table) (f : Function) (v low high : ℕ) (sound : IsSound t) (
   low-part : Contains (cofactors t.order f) (value_at m low)
   low-part = subst (λ (g : Function). Contains (cofactors t.order f) g) (sym is_low) (part false)
 
+  -- what is made for the halves is made for the whole
+  halves-stay : Keeps m u → StaysUnlessFull t m (fixed f v false) → StaysUnlessFull m u (fixed f v true) → StaysUnlessFull t u f
+  halves-stay keeps' one two =
+      stays-then t m u f keeps keeps' (stays-part t m f (fixed f v false) keeps (part false) one)
+      (stays-part m u f (fixed f v true) keeps' (subst (λ (vs : List Var). Contains (cofactors vs f) (fixed f v true)) (sym keeps.order) (part true)) two)
+
+  pub given-up-stays : (w : Table) → Keeps m u → Grows u w 0 → StaysUnlessFull t m (fixed f v false) → StaysUnlessFull m u (fixed f v true) → StaysUnlessFull t w f
+  given-up-stays w keeps' grows one two = stays-handles t u w f grows keeps'.sound (halves-stay keeps' one two)
+
   -- the second half is refused, and the first one's handle is given back
   pub cause-second : (w : Table) (g : Function) (inner more : ℕ) (r : Refusal) → g ≡ fixed f v true → inner + 1 ≤ more → Grows u w 0
       → IsCauseWithin m u g inner r → IsCauseWithin t w f more r
@@ -182,6 +193,12 @@ module _ (t m u : Table) (f : Function) (v low high : ℕ) (sound : IsSound t) (
     pub joined-keeps : (w : Table) → Keeps u w → Keeps t w
     joined-keeps w last =
         keeps_then (keeps_then keeps keeps' (λ n first end. live_gained gain n first)) last (λ n first end. live_gained gain' n (live_gained gain n first))
+
+    pub joined-stays : (w : Table) → Keeps u w → StaysUnlessFull t m (fixed f v false) → StaysUnlessFull m u (fixed f v true)
+        → StaysUnlessFull u w (fork v (value_at u low) (value_at u high)) → StaysUnlessFull t w f
+    joined-stays w last one two three =
+        stays-then t u w f (keeps_then keeps keeps' (λ n first end. live_gained gain n first)) last (halves-stay keeps' one two)
+        (subst (λ (g : Function). StaysUnlessFull u w g) fork-is three)
 
     pub joined-cause : (w : Table) (more : ℕ) (result : Result ℕ Refusal) → 2 ≤ more
         → IfErr result (IsCauseWithin u w (fork v (value_at u low) (value_at u high)) 0) → IfErr result (IsCauseWithin t w f more)

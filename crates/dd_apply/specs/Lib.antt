@@ -3,6 +3,7 @@ pub mod Right
 pub mod Cause
 pub mod Held
 pub mod Kept
+pub mod Made
 pub mod Room
 pub mod Settled
 pub mod Split

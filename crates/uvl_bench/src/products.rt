@@ -6,8 +6,8 @@ ghost use Rattle.uvl_tree_model.specs.OptionalGroups.{GroupsAreMandatoryOrOption
 use crate::tokens::tokens_of;
 use dd_store::{Handle, Store};
 use std::alloc::Global;
-use uvl_compile::{add_variables, compile};
 use uvl_parser::parse;
+use uvl_tree_compile::{add_variables, compile};
 use uvl_tree_model::Model;
 use uvl_tree_resolve::resolve;
 

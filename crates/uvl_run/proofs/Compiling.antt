@@ -8,8 +8,8 @@ use Rattle.uvl_tree_model.specs.Laws.{ProductsAreSets, VoidFamiliesHaveNoSet, Ma
 use Rattle.uvl_tree_model.specs.Names.{chosen_names}
 use Rattle.uvl_tree_model.specs.Products.{Products}
 use Rattle.uvl_tree_model.specs.Rows.{Rows}
-use Rattle.uvl_compile.specs.Chosen.{chosen_features}
-use Rattle.uvl_compile.specs.Laws.{MarksChooseFeatures}
+use Rattle.uvl_tree_compile.specs.Chosen.{chosen_features}
+use Rattle.uvl_tree_compile.specs.Laws.{MarksChooseFeatures}
 use Rattle.uvl_run.specs.steps.Compiled.{IsCompiled}
 
 module _ (model : Rows) (t : Table) (products : ℕ) (compiled : IsCompiled model t products) where

@@ -13,7 +13,7 @@ use Rattle.uvl_base.specs.declared.place.Place.{Place}
 use Rattle.uvl_lines.specs.declared.ending.Ending.{Ending}
 use Rattle.uvl_lines.specs.declared.ending.Ending.TheVariants as lines
 use Rattle.uvl_lines.specs.Endings.{AnswersLines, ending_of_put, is_input_failed, is_fetch_failed, is_write_failed}
-use Rattle.uvl_compile.specs.Nodes.{nodes_per_feature, most_nodes_of}
+use Rattle.uvl_tree_compile.specs.Nodes.{nodes_per_feature, most_nodes_of}
 use Rattle.uvl_tree_model.specs.Family.{Family}
 use Rattle.uvl_tree_model.specs.Products.{Products, ProductsOfTree}
 use Rattle.uvl_tree_model.specs.Rows.{Rows}

@@ -1,6 +1,6 @@
 -- When the budget of nodes is too small for a model.
 use Rattle.std.specs.Prelude.{ℕ, ◌*◌, List, codes}
-use Rattle.uvl_compile.specs.Nodes.{nodes_per_feature}
+use Rattle.uvl_tree_compile.specs.Nodes.{nodes_per_feature}
 use Rattle.uvl_tree_model.specs.Spelling.{size_of}
 use Rattle.uvl_tree_model.specs.Tree.{Tree}
 

@@ -1,7 +1,7 @@
 //! The state of a run, from which the lines of its script are answered.
 ghost use Rattle.std.specs.Prelude.{◌≡◌, ◌≤◌, ◌<◌, ◌↔◌, ℕ, length, slice_get, is_some, IfOk, IfSome, IsTrue, Some};
 ghost use Rattle.std.specs.List.{list_all};
-ghost use Rattle.uvl_compile.specs.Nodes.{most_nodes_of};
+ghost use Rattle.uvl_tree_compile.specs.Nodes.{most_nodes_of};
 ghost use Rattle.uvl_tree_model.specs.Family.{is_void};
 ghost use Rattle.uvl_tree_model.specs.Marks.{StandFor};
 ghost use Rattle.uvl_tree_model.specs.OptionalGroups.{GroupsAreMandatoryOrOptional};
@@ -17,10 +17,10 @@ use crate::products::{answer_valid, answer_void};
 use dd_store::{Handle, Store};
 use std::alloc::{AllocError, Global};
 use uvl_base::Name;
-use uvl_compile::{add_variables, compile, marks_choose_features};
 use uvl_lines::{AnswerFault, Answerer};
 use uvl_outside::Files;
 use uvl_script::Command;
+use uvl_tree_compile::{add_variables, compile, marks_choose_features};
 use uvl_tree_model::{
     FeatureNo, Model, marks_give_products, products_are_sets, void_families_have_no_set,
 };

@@ -1,6 +1,6 @@
 //! The top call.
 ghost use Rattle.std.specs.Prelude.{◌≡◌, ◌≤◌, ℕ, nat_lt, List, map, IfOk, string_bytes};
-ghost use Rattle.uvl_compile.specs.Nodes.{most_nodes_of};
+ghost use Rattle.uvl_tree_compile.specs.Nodes.{most_nodes_of};
 ghost use Rattle.uvl_tree_model.specs.OptionalGroups.{GroupsAreMandatoryOrOptional};
 ghost use Rattle.uvl_words.specs.Budgets.{least_budget, most_budget};
 ghost use Rattle.uvl_run.specs.Exactly.{IsExact};
@@ -16,9 +16,9 @@ use crate::load::{LoadFault, load_model};
 use crate::state::State;
 use std::alloc::{AllocError, Global};
 use uvl_base::{FaultKind, ModelFault, Place, Text};
-use uvl_compile::NODES_PER_FEATURE;
 use uvl_lines::{Ending, answer_lines};
 use uvl_outside::{Files, Sink, Source};
+use uvl_tree_compile::NODES_PER_FEATURE;
 use uvl_tree_model::Model;
 use uvl_words::{Request, USAGE_LINE, read_words};
 

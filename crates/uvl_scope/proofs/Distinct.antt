@@ -118,7 +118,7 @@ under_added start here new names qualifier name i is_new distinct unknown is lt 
     (sym (map-append (prefixed_name qualifier) (take i names) (name ∷ []))
     ∙ ap (map (prefixed_name qualifier)) (ap (λ (n : List ℕ). take i names ++ n ∷ []) (sym same) ∙ sym (take_more names i name lt)))
 
-drop_at : (names : List (List ℕ)) (name : List ℕ) (i : ℕ) → i < length names → slice_get names i ≡ Some name → drop i names ≡ name ∷ drop (i + 1) names
+pub drop_at : (names : List (List ℕ)) (name : List ℕ) (i : ℕ) → i < length names → slice_get names i ≡ Some name → drop i names ≡ name ∷ drop (i + 1) names
 drop_at names name i lt at = drop_more names i name lt ∙ ap (λ (n : List ℕ). n ∷ drop (i + 1) names) (get_or_from_slice_get names i name name at)
 
 -- what is looked for from a place on

@@ -11,3 +11,15 @@ mod LineKinds
 mod Walked
 mod WalkLines
 mod RulesWalked
+mod Together
+mod FileWalked
+mod FilesWalked
+mod Prefixing
+mod Placements
+mod NoFault
+mod LinesFit
+mod WithinLimits
+mod ScopesFit
+mod AnyNumbers
+mod NamesUnder
+mod BehindText

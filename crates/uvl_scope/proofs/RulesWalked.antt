@@ -25,7 +25,7 @@ rules_at line = fold_out-Feature (List Expr) (List Expr) feature_rules group_rul
 pub rules_in : (written : Group) → all_rules_of_group written ≡ flat_map (λ (rules : List Expr). rules) (map all_rules (out-Group written).members)
 rules_in written = fold_out-Group (List Expr) (List Expr) feature_rules group_rules written
 
-nodes-append : (front rest : List Expr) → nodes_in (front ++ rest) ≡ nodes_in front + nodes_in rest
+pub nodes-append : (front rest : List Expr) → nodes_in (front ++ rest) ≡ nodes_in front + nodes_in rest
 nodes-append [] rest = omega arith
 nodes-append (rule ∷ front) rest =
     let e : nodes_of rule + nodes_in (front ++ rest) ≡ (nodes_of rule + nodes_in front) + nodes_in rest = omega (arith, nodes-append front rest) in e

@@ -3,3 +3,4 @@ pub mod Operands
 pub mod Lines
 pub mod Offers
 pub mod Walk
+pub mod Files

@@ -1,12 +1,14 @@
 //! What is wrong in a set of files, and which names are in scope in each of them.
 #![tactic(auto)]
 
+mod checking;
 mod fault;
 mod imports;
 mod keys;
 mod law;
 mod limits;
 mod names;
+mod numbers;
 mod rule_walk;
 mod rules;
 mod scope;
@@ -14,6 +16,7 @@ mod spelling;
 mod tally;
 mod walk;
 
+pub use checking::check;
 pub use fault::ScopeFault;
 pub use law::each_set_has_one_answer;
 pub use limits::{MOST_NODES, MOST_RULES};

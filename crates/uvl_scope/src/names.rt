@@ -1,5 +1,5 @@
 //! Names by number, with a look-up by name.
-ghost use Rattle.std.specs.Prelude.{◌≡◌, ◌<◌, Some, slice_get, false, map, string_bytes, OnOk, [], ◌∷◌, ◌++◌, length, position, chars, not, is_some, IfOk, OnErr, if◌then◌else◌};
+ghost use Rattle.std.specs.Prelude.{◌≡◌, ◌<◌, ℕ, List, Some, slice_get, true, map, string_bytes, OnOk, [], ◌∷◌, ◌++◌, length, position, chars, not, is_some, IfOk, IfSome, IfNone, OnErr, if◌then◌else◌};
 ghost use Rattle.std.specs.Str.{bytes_eq};
 ghost use Rattle.std.specs.List.{list_any};
 ghost use Rattle.uvl_imports.specs.Texts.{AreDistinct};
@@ -99,36 +99,62 @@ impl NameIndex {
         }
     }
 
-    /// Adds names under a qualifier, with a dot between. None of them is there already.
+    /// Adds names under a qualifier, with a dot between, unless one of them is there: then the answer is no,
+    /// and some of them may be added.
     pub(crate) fn add_under(
         &mut self,
         qualifier: &str,
         names: &NameIndex,
-    ) -> Result<(), OutOfMemory>
-        requires new { list_any (has self.old) (map (prefixed_name (chars qualifier.now)) names.now) ≡ false }
-        ensures { OnOk result (self.new ≡ self.old ++ map (prefixed_name (chars qualifier.now)) names.now) }
+    ) -> Result<bool, OutOfMemory>
+        ensures new { IfOk result (λ new. new
+            ≡ not (list_any (has self.old) (map (prefixed_name (chars qualifier.now)) names.now))) }
+        ensures added { IfOk result (λ new. new ≡ true →
+            self.new ≡ self.old ++ map (prefixed_name (chars qualifier.now)) names.now) }
     {
         let mut text = String::new(*self.names.allocator());
         for number in 0..names.len() {
             put_under(&mut text, qualifier, names.name(number))?;
-            self.add(text.as_str())?;
-        }
-        Ok(())
-    }
-
-    /// Whether one of the names under a qualifier, with a dot between, is there.
-    pub(crate) fn has_under(&self, qualifier: &str, names: &NameIndex) -> Result<bool, OutOfMemory>
-        ensures { IfOk result
-            (λ known. known ≡ list_any (has self.now) (map (prefixed_name (chars qualifier.now)) names.now)) }
-    {
-        let mut text = String::new(*self.names.allocator());
-        for number in 0..names.len() {
-            put_under(&mut text, qualifier, names.name(number))?;
-            if self.has(text.as_str()) {
-                return Ok(true);
+            if !self.add(text.as_str())? {
+                return Ok(false);
             }
         }
-        Ok(false)
+        Ok(true)
+    }
+
+    /// Whether one of the names under a qualifier, with a dot between, is there. It makes none of them, and
+    /// compares the qualifier with the front of each name that is there.
+    pub(crate) fn has_under(&self, qualifier: &str, names: &NameIndex) -> bool
+        ensures { result ≡ list_any (has self.now) (map (prefixed_name (chars qualifier.now)) names.now) }
+    {
+        for number in 0..self.len() {
+            if names.is_under(qualifier, self.name(number)) {
+                return true;
+            }
+        }
+        false
+    }
+
+    /// Whether a name is one of these under a qualifier, with a dot between.
+    fn is_under(&self, qualifier: &str, name: &str) -> bool
+        ensures { result ≡ has (map (prefixed_name (chars qualifier.now)) self.now) (chars name.now) }
+    {
+        match behind(qualifier, name) {
+            Some(rest) => self.has(rest),
+            None => false,
+        }
+    }
+}
+
+/// What stands in a name behind a qualifier and a dot, where it begins with these.
+fn behind<'a>(qualifier: &str, name: &'a str) -> Option<&'a str>
+    ensures some { IfSome result
+        (λ rest. chars name.now ≡ prefixed_name (chars qualifier.now) (chars rest.now)) }
+    ensures none { IfNone result
+        ((rest : List ℕ) → chars name.now ≡ prefixed_name (chars qualifier.now) rest → ⊥) }
+{
+    match name.strip_prefix(qualifier) {
+        Some(rest) => rest.strip_prefix('.'),
+        None => None,
     }
 }
 

@@ -1,5 +1,5 @@
 //! The walk over the rules of a file.
-ghost use Rattle.std.specs.Prelude.{◌≡◌, ◌+◌, map, OnOk};
+ghost use Rattle.std.specs.Prelude.{◌≡◌, ◌+◌, ◌++◌, map, OnOk};
 ghost use Rattle.std.specs.List.{flat_map};
 ghost use Rattle.uvl_ast.specs.Nodes.{nodes_of};
 ghost use Rattle.uvl_ast.specs.Rules.{all_rules, all_rules_of_group};
@@ -14,6 +14,18 @@ use uvl_ast::{Expr, Feature, Group};
 use uvl_base::FaultKind;
 
 impl Tally {
+    /// Counts the rules of a file: those in braces of its root line and of all below it, and then those of
+    /// its lines.
+    pub(crate) fn add_all_rules(&mut self, root: &Feature, lines: &[Expr]) -> Result<(), FileFault>
+        requires { IsWithin self.old }
+        ensures found { IsFound (fault_in_rules self.old (all_rules root.now ++ lines.now)) result }
+        ensures adds { OnOk result (AddsRules self.old self.new (all_rules root.now ++ lines.now)) }
+    {
+        let mut text = String::new(self.alloc);
+        self.add_rules_of(&mut text, root)?;
+        self.add_rules(&mut text, lines)
+    }
+
     /// Counts a rule, unless something is wrong with it. The text is for names that dots join.
     pub(crate) fn add_rule(&mut self, text: &mut String, rule: &Expr) -> Result<(), FileFault>
         requires { IsWithin self.old }

@@ -1,15 +1,12 @@
 //! What the lines of a file bring, line by line.
-ghost use Rattle.std.specs.Prelude.{◌≡◌, ◌≤◌, ◌+◌, ◌-◌, ◌++◌, ◌∷◌, [], false, map, max, Some, chars, OnOk};
-ghost use Rattle.std.specs.List.{list_any};
+ghost use Rattle.std.specs.Prelude.{◌≡◌, ◌≤◌, ◌+◌, ◌-◌, ◌++◌, map, max, Some, chars, OnOk};
 ghost use Rattle.uvl_ast.specs.declared.feature.Feature.{out-Feature};
 ghost use Rattle.uvl_base.specs.Limits.{most_depth};
 ghost use Rattle.uvl_semantics.specs.Prefix.{prefixed_name};
-ghost use Rattle.uvl_semantics.specs.Product.{has};
 ghost use Rattle.uvl_scope.specs.Brought.{declared, nothing, placed, placed_at, together};
-ghost use Rattle.uvl_scope.specs.Limits.{most_rules, most_nodes};
 ghost use Rattle.uvl_scope.specs.LineFaults.{has_more};
 ghost use Rattle.uvl_scope.specs.Lines.{line_of};
-ghost use Rattle.uvl_scope.specs.steps.Lines.{fault_of_declared, fault_of_placed, fault_of_placing};
+ghost use Rattle.uvl_scope.specs.steps.Lines.{fault_of_declared, fault_of_names, fault_of_placed, fault_of_placing, overflow};
 ghost use Rattle.uvl_scope.specs.steps.Walk.{IsFound, IsWithin, brought_of};
 ghost use Rattle.uvl_scope.specs.steps.Offers.{placed_by};
 
@@ -22,7 +19,7 @@ use crate::scope::Scope;
 use crate::spelling::dotted;
 use std::alloc::Global;
 use uvl_ast::Feature;
-use uvl_base::{FaultKind, MOST_DEPTH, MOST_FEATURES, Name, OutOfMemory};
+use uvl_base::{FaultKind, MOST_DEPTH, MOST_FEATURES, Name, Place};
 
 /// What the lines so far brought: names in document order, the qualifiers that are placed, how deep the
 /// deepest feature stands, and how many rules the placed files have, with how many nodes.
@@ -52,6 +49,21 @@ impl Tally {
         }
     }
 
+    /// What is in scope in the file.
+    pub(crate) fn into_scope(self) -> Scope
+        ensures names { result.names ≡ self.names }
+        ensures depth { result.depth ≡ self.depth }
+        ensures rules { result.rules ≡ self.rules }
+        ensures nodes { result.nodes ≡ self.nodes }
+    {
+        Scope {
+            names: self.names,
+            depth: self.depth,
+            rules: self.rules,
+            nodes: self.nodes,
+        }
+    }
+
     /// Adds the feature that a line declares at a depth, unless something is wrong with the line.
     pub(crate) fn declare(
         &mut self,
@@ -60,9 +72,10 @@ impl Tally {
         depth: usize,
     ) -> Result<(), FileFault>
         requires { IsWithin self.old }
-        ensures found { IsFound (fault_of_declared (brought_of self.old) name.now (line_of (out-Feature line.now) depth))
-            result }
-        ensures brought { OnOk result (brought_of self.new ≡ together (brought_of self.old) (declared depth name.now)) }
+        ensures found { IsFound
+            (fault_of_declared (brought_of self.old) name.now (line_of (out-Feature line.now) depth)) result }
+        ensures brought { OnOk result
+            (brought_of self.new ≡ together (brought_of self.old) (declared depth name.now)) }
         ensures within { OnOk result (IsWithin self.new) }
         ensures shallow { OnOk result (depth ≤ most_depth) }
     {
@@ -105,9 +118,8 @@ impl Tally {
     ) -> Result<(), FileFault>
         requires within { IsWithin self.old }
         requires deep { 1 ≤ depth }
-        ensures found { IsFound
-            (fault_of_placing (placed_by scopes.now imports.now) (brought_of self.old) (line_of (out-Feature line.now) depth))
-            result }
+        ensures found { IsFound (fault_of_placing (placed_by scopes.now imports.now) (brought_of self.old)
+            (line_of (out-Feature line.now) depth)) result }
         ensures brought { OnOk result (brought_of self.new ≡ together (brought_of self.old)
             (placed_at (placed_by scopes.now imports.now) depth (out-Feature line.now).name.parts)) }
         ensures within { OnOk result (IsWithin self.new) }
@@ -166,47 +178,64 @@ impl Tally {
                 kind: FaultKind::TooDeep,
             });
         }
-        if self.names.has_under(qualifier, &scope.names)? {
-            return Err(FileFault::At {
-                place,
-                kind: FaultKind::DuplicateFeature,
-            });
-        }
-        if scope.names.len() > MOST_FEATURES - self.names.len() {
-            return Err(FileFault::At {
-                place,
-                kind: FaultKind::TooManyFeatures,
-            });
-        }
-        if scope.rules > MOST_RULES - self.rules || scope.nodes > MOST_NODES - self.nodes {
-            return Err(FileFault::At {
-                place,
-                kind: FaultKind::TooManyRules,
-            });
-        }
-        self.add_scope(scope, qualifier, depth)?;
-        Ok(())
+        self.place_names(scope, qualifier, place, depth)
     }
 
-    /// Adds what a scope has under a qualifier at a depth.
-    fn add_scope(&mut self, scope: &Scope, qualifier: &str, depth: usize) -> Result<(), OutOfMemory>
-        requires new { list_any (has self.old.names) (map (prefixed_name (chars qualifier.now)) scope.now.names) ≡ false }
+    /// Adds what a scope has under a qualifier at a depth, unless one of its names is there or there would be
+    /// too much. Where there is no room for the names, none of them is made.
+    fn place_names(
+        &mut self,
+        scope: &Scope,
+        qualifier: &str,
+        place: Place,
+        depth: usize,
+    ) -> Result<(), FileFault>
+        requires within { IsWithin self.old }
         requires shallow { depth + scope.now.depth - 1 ≤ most_depth }
-        requires few_rules { self.old.rules + scope.now.rules ≤ most_rules }
-        requires few_nodes { self.old.nodes + scope.now.nodes ≤ most_nodes }
         requires deep { 1 ≤ depth }
+        ensures found { IsFound (fault_of_names (brought_of self.old)
+            (placed depth (chars qualifier.now) (Some scope.now)) place) result }
         ensures names { OnOk result
             (self.new.names ≡ self.old.names ++ map (prefixed_name (chars qualifier.now)) scope.now.names) }
         ensures placed { self.new.placed ≡ self.old.placed }
         ensures depth { OnOk result (self.new.depth ≡ max self.old.depth (depth + scope.now.depth - 1)) }
         ensures rules { OnOk result (self.new.rules ≡ self.old.rules + scope.now.rules) }
         ensures nodes { OnOk result (self.new.nodes ≡ self.old.nodes + scope.now.nodes) }
+        ensures within { OnOk result (IsWithin self.new) }
     {
-        self.names.add_under(qualifier, &scope.names)?;
+        if let Some(kind) = self.overflow(scope) {
+            if self.names.has_under(qualifier, &scope.names) {
+                return Err(FileFault::At {
+                    place,
+                    kind: FaultKind::DuplicateFeature,
+                });
+            }
+            return Err(FileFault::At { place, kind });
+        }
+        if !self.names.add_under(qualifier, &scope.names)? {
+            return Err(FileFault::At {
+                place,
+                kind: FaultKind::DuplicateFeature,
+            });
+        }
         self.depth = self.depth.max(depth + scope.depth - 1);
         self.rules += scope.rules;
         self.nodes += scope.nodes;
         Ok(())
+    }
+
+    /// What there would be too many of with a scope.
+    fn overflow(&self, scope: &Scope) -> Option<FaultKind>
+        requires { IsWithin self.now }
+        ensures { result ≡ overflow (brought_of self.now) scope.now }
+    {
+        if scope.names.len() > MOST_FEATURES - self.names.len() {
+            return Some(FaultKind::TooManyFeatures);
+        }
+        if scope.rules > MOST_RULES - self.rules || scope.nodes > MOST_NODES - self.nodes {
+            return Some(FaultKind::TooManyRules);
+        }
+        None
     }
 }
 

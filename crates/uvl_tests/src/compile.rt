@@ -3,7 +3,7 @@ use crate::store::expect_values;
 use crate::texts::{PRODUCTS_OF_THIN, THIN, model_of};
 use dd_store::Store;
 use std::test::Fail;
-use uvl_compile::{add_variables, compile};
+use uvl_tree_compile::{add_variables, compile};
 
 #[test]
 fn the_diagram_of_a_thin_model_has_its_products(rt: HostRuntime) -> Result<(), Fail> {

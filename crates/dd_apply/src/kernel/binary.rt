@@ -17,6 +17,7 @@ impl Kernel {
     ghost use Rattle.dd_store.specs.Handles.{KeepsHandles, GainsHandle};
     ghost use Rattle.dd_store.specs.Table.{IsLive, IsVariable, IsAbove, row_of, top_of};
     ghost use Rattle.dd_apply.specs.Held.{IsHeld, IsCauseWithin, HasBoth, Trades, LosesBoth};
+    ghost use Rattle.dd_apply.specs.Made.{StaysUnlessFull};
     ghost use Rattle.dd_apply.specs.Split.{fork};
     ghost use Rattle.dd_apply.specs.Truth.{applied};
 
@@ -36,6 +37,8 @@ impl Kernel {
         ensures gained { IfOk result (GainsHandle self.old self.new) }
         ensures refused { OnErr result (KeepsHandles self.old self.new) }
         ensures keeps { Keeps self.old self.new }
+        ensures stays { StaysUnlessFull self.old self.new
+            (applied operation (value_at self.old a.0) (value_at self.old b.0)) }
         ensures cause { IfErr result (IsCauseWithin self.old self.new
             (applied operation (value_at self.old a.0) (value_at self.old b.0))
             (2 * (length self.old.order - min (top_of self.old a.0) (top_of self.old b.0) + 1))) }
@@ -125,6 +128,8 @@ impl Kernel {
         ensures traded { IfOk result (Trades self.old self.new low high) }
         ensures lost { OnErr result (LosesBoth self.old self.new low high) }
         ensures keeps { Keeps self.old self.new }
+        ensures stays { StaysUnlessFull self.old self.new
+            (fork var.0 (value_at self.old low) (value_at self.old high)) }
         ensures cause { IfErr result (IsCauseWithin self.old self.new
             (fork var.0 (value_at self.old low) (value_at self.old high)) 0) }
     {

@@ -13,6 +13,7 @@ impl Kernel {
     ghost use Rattle.dd_store.specs.Handles.{KeepsHandles, GainsHandle};
     ghost use Rattle.dd_store.specs.Table.{top_of};
     ghost use Rattle.dd_apply.specs.Held.{IsHeld, IsCauseWithin};
+    ghost use Rattle.dd_apply.specs.Made.{StaysUnlessFull};
     ghost use Rattle.dd_apply.specs.Right.{IsRight};
     ghost use Rattle.dd_apply.specs.Truth.{chosen};
 
@@ -33,6 +34,8 @@ impl Kernel {
         ensures gained { IfOk result (GainsHandle self.old self.new) }
         ensures refused { OnErr result (KeepsHandles self.old self.new) }
         ensures keeps { Keeps self.old self.new }
+        ensures stays { StaysUnlessFull self.old self.new
+            (chosen (value_at self.old c.0) (value_at self.old a.0) (value_at self.old b.0)) }
         ensures cause { IfErr result (IsCauseWithin self.old self.new
             (chosen (value_at self.old c.0) (value_at self.old a.0) (value_at self.old b.0))
             (let top = min (top_of self.old c.0) (min (top_of self.old a.0) (top_of self.old b.0)) in

@@ -75,8 +75,11 @@ impl Kernel {
     }
 
     /// Whether a node is an end of several nodes, so that one operation may meet it more than once. It may be said of
-    /// more nodes.
+    /// more nodes, and of no constant: what is asked of a node beside one is as often asked as the node is met.
     pub(crate) fn is_shared(&self, node: NodeNo) -> bool {
+        if node.0 < 2 {
+            return false;
+        }
         match self.ends.get(node.0 as usize) {
             Some(count) => *count > 1,
             None => true,

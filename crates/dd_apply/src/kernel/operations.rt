@@ -13,6 +13,7 @@ impl Kernel {
     ghost use Rattle.dd_store.specs.Table.{IsLive, value_of};
     ghost use Rattle.dd_apply.specs.Cause.{IsCause};
     ghost use Rattle.dd_apply.specs.Held.{IsHeld};
+    ghost use Rattle.dd_apply.specs.Made.{StaysUnlessFull};
     ghost use Rattle.dd_apply.specs.Truth.{table, applied, chosen, opposite};
 
     /// A handle whose value is true where both values are.
@@ -24,6 +25,8 @@ impl Kernel {
         ensures gained { IfOk result (GainsHandle self.old self.new) }
         ensures refused { OnErr result (KeepsHandles self.old self.new) }
         ensures keeps { Keeps self.old self.new }
+        ensures stays { StaysUnlessFull self.old self.new
+            (applied Operation.And (value_at self.old a.now) (value_at self.old b.now)) }
         ensures cause { IfErr result (IsCause self.old self.new
             (applied Operation.And (value_at self.old a.now) (value_at self.old b.now))) }
     {
@@ -40,6 +43,8 @@ impl Kernel {
         ensures gained { IfOk result (GainsHandle self.old self.new) }
         ensures refused { OnErr result (KeepsHandles self.old self.new) }
         ensures keeps { Keeps self.old self.new }
+        ensures stays { StaysUnlessFull self.old self.new
+            (applied Operation.Or (value_at self.old a.now) (value_at self.old b.now)) }
         ensures cause { IfErr result (IsCause self.old self.new
             (applied Operation.Or (value_at self.old a.now) (value_at self.old b.now))) }
     {
@@ -57,6 +62,8 @@ impl Kernel {
         ensures gained { IfOk result (GainsHandle self.old self.new) }
         ensures refused { OnErr result (KeepsHandles self.old self.new) }
         ensures keeps { Keeps self.old self.new }
+        ensures stays { StaysUnlessFull self.old self.new
+            (applied Operation.Xor (value_at self.old a.now) (value_at self.old b.now)) }
         ensures cause { IfErr result (IsCause self.old self.new
             (applied Operation.Xor (value_at self.old a.now) (value_at self.old b.now))) }
     {
@@ -71,6 +78,8 @@ impl Kernel {
         ensures gained { IfOk result (GainsHandle self.old self.new) }
         ensures refused { OnErr result (KeepsHandles self.old self.new) }
         ensures keeps { Keeps self.old self.new }
+        ensures stays { StaysUnlessFull self.old self.new
+            (opposite (value_at self.old a.now)) }
         ensures cause { IfErr result (IsCause self.old self.new (opposite (value_at self.old a.now))) }
     {
         let _order = self.order();
@@ -94,6 +103,8 @@ impl Kernel {
         ensures gained { IfOk result (GainsHandle self.old self.new) }
         ensures refused { OnErr result (KeepsHandles self.old self.new) }
         ensures keeps { Keeps self.old self.new }
+        ensures stays { StaysUnlessFull self.old self.new
+            (chosen (value_at self.old condition.now) (value_at self.old a.now) (value_at self.old b.now)) }
         ensures cause { IfErr result (IsCause self.old self.new
             (chosen (value_at self.old condition.now) (value_at self.old a.now) (value_at self.old b.now))) }
     {
@@ -119,6 +130,8 @@ impl Kernel {
         ensures gained { IfOk result (GainsHandle self.old self.new) }
         ensures refused { OnErr result (KeepsHandles self.old self.new) }
         ensures keeps { Keeps self.old self.new }
+        ensures stays { StaysUnlessFull self.old self.new
+            (applied operation (value_at self.old a.0) (value_at self.old b.0)) }
         ensures cause { IfErr result (IsCause self.old self.new
             (applied operation (value_at self.old a.0) (value_at self.old b.0))) }
     {

@@ -1,7 +1,9 @@
 -- The faults of a line, where it is known whether it declares a feature or is to place a file.
 use Rattle.std.specs.Prelude.{ℕ, ◌+◌, List, [], ◌∷◌, length, Option, Some, None, nat_lt}
-use Rattle.std.specs.Option.{option_map}
+use Rattle.std.specs.Option.{option_map, option_or}
 use Rattle.uvl_base.specs.declared.fault.FaultKind.TheVariants.{UnknownFeature, PlacedTwice, BodyOnPlacedImport, TooDeep, DuplicateFeature, DuplicateAttribute, TooManyFeatures, TooManyRules}
+use Rattle.uvl_base.specs.declared.fault.FaultKind.{FaultKind}
+use Rattle.uvl_base.specs.declared.place.Place.{Place}
 use Rattle.uvl_base.specs.Limits.{most_features, most_depth}
 use Rattle.uvl_semantics.specs.Product.{has}
 use Rattle.uvl_placing.specs.Names.{dotted, front_of}
@@ -22,17 +24,30 @@ fault_of_declared before name line = first_of (
     ∷ []
     )
 
--- that of a line that places a scope, with what that brings
-abbrev pub fault_of_body : Brought → List ℕ → Brought → FeatureLine → Option Finding
-fault_of_body before qualifier brought line = first_of (
-    when (has before.placed qualifier) (finding PlacedTwice line.reference.place)
-    ∷ when (has_more line) (finding BodyOnPlacedImport line.reference.place)
-    ∷ when (is_too_deep brought line) (finding TooDeep line.reference.place)
-    ∷ when (has_known_name before brought) (finding DuplicateFeature line.reference.place)
-    ∷ when (is_too_large before brought) (finding TooManyFeatures line.reference.place)
-    ∷ when (are_too_many (before.rules + brought.rules) (before.nodes + brought.nodes)) (finding TooManyRules line.reference.place)
+-- the names that a line brings, and how much it brings
+abbrev pub fault_of_names : Brought → Brought → Place → Option Finding
+fault_of_names before brought place = first_of (
+    when (has_known_name before brought) (finding DuplicateFeature place)
+    ∷ when (is_too_large before brought) (finding TooManyFeatures place)
+    ∷ when (are_too_many (before.rules + brought.rules) (before.nodes + brought.nodes)) (finding TooManyRules place)
     ∷ []
     )
+
+-- what there would be too many of with a scope
+abbrev pub overflow : Brought → Scope → Option FaultKind
+overflow before scope = first_of (
+    when (nat_lt most_features (length before.names + length scope.names)) TooManyFeatures
+    ∷ when (are_too_many (before.rules + scope.rules) (before.nodes + scope.nodes)) TooManyRules
+    ∷ []
+    )
+
+-- that of a line that places a scope, with what that brings
+abbrev pub fault_of_body : Brought → List ℕ → Brought → FeatureLine → Option Finding
+fault_of_body before qualifier brought line =
+    option_or (when (has before.placed qualifier) (finding PlacedTwice line.reference.place))
+    (option_or (when (has_more line) (finding BodyOnPlacedImport line.reference.place))
+    (option_or (when (is_too_deep brought line) (finding TooDeep line.reference.place))
+    (fault_of_names before brought line.reference.place)))
 
 abbrev pub fault_of_placed : Brought → List ℕ → Scope → FeatureLine → Option Finding
 fault_of_placed before qualifier scope line =

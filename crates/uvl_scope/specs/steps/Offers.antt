@@ -17,7 +17,8 @@ target_among qualifier (first ∷ qualifiers) (target ∷ targets) =
 -- a qualifier calls the same file as it does by the lines
 abbrev pub Calls : Imports → List Import → List ℕ → Type 0
 Calls imports lines targets =
-    (qualifier : List ℕ) → target_among qualifier imports.qualifiers imports.targets ≡ target_called qualifier lines targets
+    (qualifier : List ℕ) →
+    target_among qualifier imports.qualifiers imports.targets ≡ target_called qualifier lines targets
 
 -- the scope that a reference places
 abbrev pub placed_by : List Scope → Imports → Placing

@@ -3,9 +3,11 @@ use Rattle.std.proofs.Common.{◌∙◌, ℕ, ◌<◌, ◌≤◌, ◌+◌, ◌*�
 use Rattle.std.specs.List.{Contains}
 use Rattle.std.proofs.lemmas.Result.{err_from_is_err_and}
 use Rattle.dd_store.specs.declared.row.NodeNo.{NodeNo}
+use Rattle.dd_apply.proofs.MadeLemmas.{stays-part}
+use Rattle.dd_apply.specs.Made.{StaysUnlessFull}
 use Rattle.dd_store.specs.Exhausted.{value_at}
 use Rattle.dd_store.specs.Follow.{IsThere}
-use Rattle.dd_store.specs.Size.{Function, cofactors}
+use Rattle.dd_store.specs.Size.{Function, cofactors, fixed}
 use Rattle.dd_store.specs.Table.{row_of}
 use Rattle.dd_store.proofs.CofactorLemmas.{fixed-cofactor}
 use Rattle.dd_store.proofs.ChangeLemmas.{keeps_then}
@@ -14,7 +16,7 @@ use Rattle.dd_apply.specs.Split.{fork}
 use Rattle.dd_apply.specs.Truth.{applied}
 use Rattle.dd_apply.proofs.HeldLemmas.{held-there}
 use Rattle.dd_apply.proofs.RoomLemmas.{cause-part}
-use Rattle.dd_apply.proofs.StepLemmas.{cause-second, above-low, above-high, fork-is, joined-value, joined-gain, joined-keeps-handles, joined-keeps, joined-cause, given-up-keeps}
+use Rattle.dd_apply.proofs.StepLemmas.{cause-second, above-low, above-high, fork-is, joined-value, joined-gain, joined-keeps-handles, joined-keeps, joined-cause, joined-stays, given-up-keeps, given-up-stays}
 use Rattle.dd_apply.proofs.CombineLemmas.{levels, one-node, free, held-halves, fewer, half-value, held-after, fewer-after, value-after, asked-after}
 use Rattle.dd_apply.proofs.kernel.Kernel.+combine.Goals as goal
 
@@ -300,3 +302,65 @@ returns-in-Err-clause-cause t c =
     (applied op (value_at m c.past.result.1.0) (value_at m c.past-2.result.1.0)) (2 * (levels m c.past.result.1.0 c.past-2.result.1.0 + 1))
     (2 * (levels s c.args.a.0 c.args.b.0 + 1)) c.in-Err.refusal after (more (levels m c.past.result.1.0 c.past-2.result.1.0) (levels s c.args.a.0 c.args.b.0) less)
     c.release.ensures.grows c.in-Err.ensures.cause
+
+pub returns-in_err-low-clause-stays : goal.returns-in_err-low-clause-stays
+returns-in_err-low-clause-stays t c =
+    let s = c.args.self.now in
+    let v = c.tested-var.result.0 in
+    let f = applied c.args.operation (value_at s c.args.a.0) (value_at s c.args.b.0) in
+    let top = c.tested-var.ensures.top ∙ c.higher.ensures.top in
+    let sound = c.order-order.ensures.sound in
+    let inside = c.tested-var.ensures.variable in
+    let is = half-value s sound c.args.operation c.args.a.0 c.args.b.0 v c.requires.a_held c.requires.b_held inside top false c.past.result.0.0 c.past-2.result.0.0 c.past.ensures.low c.past-2.ensures.low in
+    let free' = free s sound c.args.operation c.args.a.0 c.args.b.0 v c.requires.a_held c.requires.b_held inside top in
+    stays-part s c.combine.new.self f (fixed f v false) c.in_err-low.ensures.keeps (fixed-cofactor s.order f v false inside free')
+    (subst (λ (g : Function). StaysUnlessFull s c.combine.new.self g) is c.in_err-low.ensures.stays)
+
+pub returns-in-Ok-clause-stays : goal.returns-in-Ok-clause-stays
+returns-in-Ok-clause-stays t c =
+    let s = c.args.self.now in
+    let m = c.combine.new.self in
+    let u = c.combine-2.new.self in
+    let op = c.args.operation in
+    let v = c.tested-var.result.0 in
+    let f : Function = applied op (value_at s c.args.a.0) (value_at s c.args.b.0) in
+    let sound = c.order-order.ensures.sound in
+    let inside = c.tested-var.ensures.variable in
+    let top = c.tested-var.ensures.top ∙ c.higher.ensures.top in
+    let free' = free s sound op c.args.a.0 c.args.b.0 v c.requires.a_held c.requires.b_held inside top in
+    let keeps = c.in_ok-low.ensures.keeps in
+    let gain = c.in_ok-low.ensures.gained in
+    let is_low = c.in_ok-low.ensures.value ∙ half-value s sound op c.args.a.0 c.args.b.0 v c.requires.a_held c.requires.b_held inside top false
+    c.past.result.0.0 c.past-2.result.0.0 c.past.ensures.low c.past-2.ensures.low in
+    let after = value-after s sound op c.args.a.0 c.args.b.0 v c.requires.a_held c.requires.b_held inside top true
+    c.past.result.1.0 c.past-2.result.1.0 c.past.ensures.high c.past-2.ensures.high m keeps (live_gained gain) in
+    let keeps' = c.in-Ok.ensures.keeps in
+    let gain' = c.in-Ok.ensures.gained in
+    let is_high = c.in-Ok.ensures.value ∙ after in
+    let one = subst (λ (g : Function). StaysUnlessFull s m g) (half-value s sound op c.args.a.0 c.args.b.0 v c.requires.a_held c.requires.b_held inside top false
+    c.past.result.0.0 c.past-2.result.0.0 c.past.ensures.low c.past-2.ensures.low) c.in_ok-low.ensures.stays in
+    let two = subst (λ (g : Function). StaysUnlessFull m u g) after c.in-Ok.ensures.stays in
+    joined-stays s m u f v c.in_ok-low.low c.in-Ok.high sound inside free' keeps gain is_low keeps' gain' is_high c.join.new.self c.join.ensures.keeps one two c.join.ensures.stays
+
+pub returns-in-Err-clause-stays : goal.returns-in-Err-clause-stays
+returns-in-Err-clause-stays t c =
+    let s = c.args.self.now in
+    let m = c.combine.new.self in
+    let u = c.combine-2.new.self in
+    let op = c.args.operation in
+    let v = c.tested-var.result.0 in
+    let f : Function = applied op (value_at s c.args.a.0) (value_at s c.args.b.0) in
+    let sound = c.order-order.ensures.sound in
+    let inside = c.tested-var.ensures.variable in
+    let top = c.tested-var.ensures.top ∙ c.higher.ensures.top in
+    let free' = free s sound op c.args.a.0 c.args.b.0 v c.requires.a_held c.requires.b_held inside top in
+    let keeps = c.in_ok-low.ensures.keeps in
+    let gain = c.in_ok-low.ensures.gained in
+    let is_low = c.in_ok-low.ensures.value ∙ half-value s sound op c.args.a.0 c.args.b.0 v c.requires.a_held c.requires.b_held inside top false
+    c.past.result.0.0 c.past-2.result.0.0 c.past.ensures.low c.past-2.ensures.low in
+    let after = value-after s sound op c.args.a.0 c.args.b.0 v c.requires.a_held c.requires.b_held inside top true
+    c.past.result.1.0 c.past-2.result.1.0 c.past.ensures.high c.past-2.ensures.high m keeps (live_gained gain) in
+    let one = subst (λ (g : Function). StaysUnlessFull s m g) (half-value s sound op c.args.a.0 c.args.b.0 v c.requires.a_held c.requires.b_held inside top false
+    c.past.result.0.0 c.past-2.result.0.0 c.past.ensures.low c.past-2.ensures.low) c.in_ok-low.ensures.stays in
+    let two = subst (λ (g : Function). StaysUnlessFull m u g) after c.in-Err.ensures.stays in
+    given-up-stays s m u f v c.in_ok-low.low 0 sound inside free' keeps gain is_low c.release.new.self c.in-Err.ensures.keeps c.release.ensures.grows one two

@@ -4,6 +4,7 @@ use Rattle.dd_store.specs.Exhausted.{value_at}
 use Rattle.dd_store.specs.Size.{Function}
 use Rattle.dd_store.specs.Table.{Table, value_of}
 use Rattle.dd_apply.specs.Cause.{IsCause}
+use Rattle.dd_apply.specs.Made.{StaysUnlessFull}
 use Rattle.dd_apply.specs.Truth.{chosen}
 use Rattle.dd_apply.proofs.RoomLemmas.{values-told, cause-told}
 use Rattle.dd_apply.proofs.ChooseLemmas.{levels3}
@@ -31,3 +32,11 @@ returns-clause-cause c =
     c.node_of-condition.ensures.place c.node_of-a.ensures.place c.node_of-b.ensures.place)
     (cause-told s c.choose.new.self (chosen (value_at s c.node_of-condition.result.0) (value_at s c.node_of-a.result.0) (value_at s c.node_of-b.result.0))
     (2 * (levels3 s c.node_of-condition.result.0 c.node_of-a.result.0 c.node_of-b.result.0 + 1)) c.choose.result c.order-order.ensures.sound (omega arith) c.choose.ensures.cause)
+
+pub returns-clause-stays : goal.returns-clause-stays
+returns-clause-stays c =
+    let s = c.args.self.now in
+    subst (λ (f : Function). StaysUnlessFull s c.choose.new.self f)
+    (same s c.node_of-condition.result.0 c.node_of-a.result.0 c.node_of-b.result.0 c.args.condition.now c.args.a.now c.args.b.now
+    c.node_of-condition.ensures.place c.node_of-a.ensures.place c.node_of-b.ensures.place)
+    c.choose.ensures.stays

@@ -2,6 +2,7 @@
 use Rattle.std.proofs.Common.{ℕ, IfErr, sym, subst, inl, arith}
 use Rattle.dd_store.specs.Size.{Function}
 use Rattle.dd_apply.specs.Cause.{IsCause}
+use Rattle.dd_apply.specs.Made.{StaysUnlessFull}
 use Rattle.dd_apply.proofs.JoinLemmas.{not-is, not-told}
 use Rattle.dd_apply.specs.Held.{IsHeld}
 use Rattle.dd_apply.proofs.HeldLemmas.{live-held}
@@ -22,3 +23,8 @@ pub returns-clause-cause : goal.returns-clause-cause
 returns-clause-cause c =
     subst (λ (f : Function). IfErr c.operate.result (IsCause c.args.self.now c.operate.new.self f))
     (not-is c.args.self.now c.node_of-a.result.0 c.args.a.now c.order-order.ensures.sound c.node_of-a.ensures.place) c.operate.ensures.cause
+
+pub returns-clause-stays : goal.returns-clause-stays
+returns-clause-stays c =
+    subst (λ (f : Function). StaysUnlessFull c.args.self.now c.operate.new.self f)
+    (not-is c.args.self.now c.node_of-a.result.0 c.args.a.now c.order-order.ensures.sound c.node_of-a.ensures.place) c.operate.ensures.stays

@@ -1,0 +1,4 @@
+pub mod CountedLemmas
+pub mod LevelsLemmas
+pub mod StatesLemmas
+pub mod MembersLemmas

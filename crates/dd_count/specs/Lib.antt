@@ -1,0 +1,4 @@
+pub mod Cardinality
+pub mod Members
+pub mod Levels
+pub mod States

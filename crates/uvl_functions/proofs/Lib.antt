@@ -1,0 +1,5 @@
+pub mod Few
+pub mod Placed
+pub mod ShortLemmas
+pub mod TableLemmas
+pub mod LiteralLemmas

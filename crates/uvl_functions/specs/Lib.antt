@@ -1,0 +1,9 @@
+pub mod Variables
+pub mod Functions
+pub mod RuleParts
+pub mod Groups
+pub mod Enough
+pub mod Cause
+pub mod Trade
+pub mod Placing
+pub mod Laws
