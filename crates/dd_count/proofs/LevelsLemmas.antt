@@ -4,9 +4,9 @@ use Rattle.std.specs.List.{All}
 use Rattle.std.specs.List.Sorted.{IsPermutation, IsSortedByKey, IsNonDecreasingBy}
 use Rattle.std.specs.Ordering.{nat_cmp}
 use Rattle.std.proofs.lemmas.Bool.{cases_eq, eqb-true, eq-eqb}
-use Rattle.std.proofs.lemmas.List.{take_more, map-append}
+use Rattle.std.proofs.lemmas.List.{take_more, map-append, length-map}
 use Rattle.std.proofs.lemmas.List.Elements.{All-head, All-tail, All-map}
-use Rattle.std.proofs.lemmas.List.Sorted.{All-permutation, IsPermutation-map, IsNonDecreasingBy-from_sort, sum_by-IsPermutation}
+use Rattle.std.proofs.lemmas.List.Sorted.{All-permutation, length_permutation, IsPermutation-map, IsNonDecreasingBy-from_sort, sum_by-IsPermutation}
 use Rattle.std.proofs.lemmas.List.Sums.{sum_by-cons}
 use Rattle.dd_store.specs.declared.row.Var.{Var}
 use Rattle.dd_store.specs.Order.{level_in, IsIn, IsDistinct}
@@ -117,12 +117,20 @@ pub levels-more : (order vs : List Var) (i : ℕ) (d : Var) → i < length vs �
 levels-more order vs i d inside =
     ap (levels_in order) (take_more vs i d inside) ∙ map-append (λ (v : Var). level_in order v.0) (take i vs) (get_or vs i d ∷ [])
 
+pub levels-push : (order vs : List Var) (i : ℕ) (d : Var) (ls all : List ℕ) (l : ℕ) → i < length vs → all ≡ ls ++ l ∷ [] → ls ≡ levels_in order (take i vs)
+    → l ≡ level_in order (get_or vs i d).0 → all ≡ levels_in order (take (i + 1) vs)
+levels-push order vs i d ls all l inside is so_far level =
+    let both : ls ++ l ∷ [] ≡ levels_in order (take i vs) ++ level_in order (get_or vs i d).0 ∷ []
+    = ap (λ (ks : List ℕ). ks ++ l ∷ []) so_far ∙ ap (λ (k : ℕ). levels_in order (take i vs) ++ k ∷ []) level in
+    is ∙ both ∙ sym (levels-more order vs i d inside)
+
 -- the levels of members, sorted
 pub sorted-levels : (order vs : List Var) (ls sorted : List ℕ) → All (λ (v : Var). IsIn order v.0) vs → IsDistinct vs → ls ≡ levels_in order vs
     → IsPermutation ls sorted → IsSortedByKey (λ (n : ℕ). n) nat_cmp sorted → AreLevelsOf order vs sorted
 sorted-levels order vs ls sorted inside distinct are moved up =
     let moved' : IsPermutation (levels_in order vs) sorted = subst (λ (ks : List ℕ). IsPermutation ks sorted) are moved in
     record {
+      size = length_permutation (levels_in order vs) sorted moved' ∙ length-map vs (λ (v : Var). level_in order v.0);
       falling = falling sorted (IsNonDecreasingBy-from_sort (λ (n : ℕ). n) sorted up)
           (λ k. let same = sum_by-IsPermutation (λ (l : ℕ). one (l == k)) (levels_in order vs) sorted moved' in let few = once order vs inside distinct k in omega arith);
       within = All-permutation (λ (l : ℕ). l < length order) (levels_in order vs) sorted moved' (All-map (λ (l : ℕ). l < length order) (λ (v : Var). level_in order v.0) vs inside);

@@ -1,7 +1,8 @@
 -- One member after the other is counted, from the last one up.
-use Rattle.std.proofs.Common.{◌≡◌, ℕ, suc, ◌+◌, ◌-◌, ◌*◌, ◌<◌, ◌≤◌, Bool, List, [], ◌∷◌, ◌++◌, length, min, take, drop, get_or, slice_index, Result, Ok, Err, IfOk, refl, ap, sym, ◌∙◌, subst, inl, inr, arith}
+use Rattle.std.proofs.Common.{◌≡◌, ℕ, suc, ◌+◌, ◌-◌, ◌*◌, ◌<◌, ◌≤◌, Bool, List, [], ◌∷◌, ◌++◌, length, min, take, drop, get_or, slice_index, Result, Ok, Err, IfOk, refl, ap, sym, ◌∙◌, subst, inl, inr, arith, nat_lt, if◌then◌else◌, true, false, suc-mul}
 use Rattle.std.specs.List.{All, Contains}
-use Rattle.std.proofs.lemmas.Bool.{cases_lt}
+use Rattle.std.proofs.Math.Nat.{mul-le-mul_right}
+use Rattle.std.proofs.lemmas.Bool.{cases_lt, ltb-false}
 use Rattle.std.proofs.lemmas.List.{drop_more, drop_all, length-drop, get_or-take, length-take-le}
 use Rattle.std.proofs.lemmas.List.Elements.{All-head, All-tail, All-drop}
 use Rattle.dd_store.specs.declared.refusal.Refusal.{Refusal}
@@ -13,7 +14,7 @@ use Rattle.dd_store.specs.Law.{DependsOnNoneAbove}
 use Rattle.dd_store.specs.Order.{level_in, IsIn, IsDistinct}
 use Rattle.dd_store.specs.Size.{Function, cofactors}
 use Rattle.dd_store.specs.SizeLaws.{IsFreeOf}
-use Rattle.dd_store.specs.Table.{Table, row_of, value_of, IsLive, IsSound}
+use Rattle.dd_store.specs.Table.{Table, row_of, value_of, node_count, IsLive, IsSound}
 use Rattle.dd_store.proofs.CountLemmas.{gains_one, length-push}
 use Rattle.dd_store.proofs.StayLemmas.{value-kept}
 use Rattle.dd_store.proofs.TopLemmas.{tell-levels}
@@ -38,16 +39,42 @@ pub record AreCountedTo (begun t : Table) (levels : List ℕ) (low high left : �
   pub states_are : AreStates t (variables_on begun.order (drop left levels)) low high states
   pub number : length states ≡ min left (last_state (length levels) low high) + 1
   pub inside : left ≤ length levels
+  -- for each member that is counted so many nodes are asked for at most
+  pub nodes : node_count t ≤ node_count begun + (length levels - left) * (high + 1)
+
+nodes-sum : (m t b p q l h : ℕ) → m + 1 ≤ t + l → t ≤ b + p → l ≤ h + 2 → q ≡ p + (h + 1) → m ≤ b + q
+nodes-sum m t b p q l h one so_far few is = omega arith
+
+at-most : (m b p q : ℕ) → m ≤ b + p → p ≤ q → m ≤ b + q
+at-most m b p q so_far all = omega arith
+
+pub no-fewer : (a b c : ℕ) → a ≤ b → a ≤ b + c
+no-fewer a b c less = omega arith
+
+-- a state more than are forked
+states-most : (k low high left : ℕ) → left ≤ k → min left (last_state k low high) ≤ high + 1
+states-most k low high left less = by (nat_lt high k) refl
+  where
+    by : (b : Bool) → nat_lt high k ≡ b → min left (if b then high + 1 else low) ≤ high + 1
+    by true e = omega arith
+    by false e = let top : k ≤ high = ltb-false high k e in omega arith
 
 -- no member is counted yet
 pub counted-to-none : (begun t : Table) (levels : List ℕ) (low high last : ℕ) (states : List ℕ) → HoldsStates begun t states → AreStates t [] low high states
-    → length states ≡ last + 1 → last ≡ min (length levels) (last_state (length levels) low high) → AreCountedTo begun t levels low high (length levels) states
-counted-to-none begun t levels low high last states holds are number is = record {
+    → length states ≡ last + 1 → last ≡ min (length levels) (last_state (length levels) low high) → node_count t ≤ node_count begun → AreCountedTo begun t levels low high (length levels) states
+counted-to-none begun t levels low high last states holds are number is nodes = record {
   held = holds;
   states_are = subst (λ (ls : List ℕ). AreStates t (variables_on begun.order ls) low high states) (sym (drop_all (length levels) levels (omega arith))) are;
   number = number ∙ ap (λ (n : ℕ). n + 1) is;
   inside = omega arith;
+  nodes = no-fewer (node_count t) (node_count begun) ((length levels - length levels) * (high + 1)) nodes;
 }
+
+-- so many nodes were asked for at most
+pub nodes-counted : (begun t : Table) (levels : List ℕ) (low high left : ℕ) (states : List ℕ) → AreCountedTo begun t levels low high left states
+    → node_count t ≤ node_count begun + length levels * (high + 1)
+nodes-counted begun t levels low high left states at =
+    at-most (node_count t) (node_count begun) ((length levels - left) * (high + 1)) (length levels * (high + 1)) at.nodes (mul-le-mul_right (high + 1) (omega arith))
 
 -- all members are counted: one state is left
 pub counted-to-all : (begun t : Table) (levels : List ℕ) (low high left : ℕ) (states rest : List ℕ) (h : ℕ) → left ≤ 0 → states ≡ rest ++ h ∷ []
@@ -100,6 +127,21 @@ module _ (begun t : Table) (levels : List ℕ) (low high left left' : ℕ) (stat
 
   level : level_in t.order (variable_on order l).0 ≡ l
   level = ap (λ (vs : List Var). level_in vs (variable_on order l).0) same-order ∙ level-on order distinct l here
+
+  -- for one more member
+  pub nodes-more : (m : ℕ) → m + 1 ≤ node_count t + length states → m ≤ node_count begun + (length levels - left') * (high + 1)
+  nodes-more m few =
+      let number = at.number in
+      let most = states-most (length levels) low high left at.inside in
+      let one : length levels - left' ≡ suc (length levels - left) = (let inside = at.inside in omega arith) in
+      nodes-sum m (node_count t) (node_count begun) ((length levels - left) * (high + 1)) ((length levels - left') * (high + 1)) (length states) high few at.nodes (omega arith)
+      (ap (λ (n : ℕ). n * (high + 1)) one ∙ suc-mul (length levels - left) (high + 1))
+
+  pub nodes-refused : (m : ℕ) → m + 1 ≤ node_count t + length states → m ≤ node_count begun + length levels * (high + 1)
+  nodes-refused m few =
+      let so_far = nodes-more m few in
+      let all : (length levels - left') * (high + 1) ≤ length levels * (high + 1) = mul-le-mul_right (high + 1) (omega arith) in
+      at-most m (node_count begun) ((length levels - left') * (high + 1)) (length levels * (high + 1)) so_far all
 
   number-few : length states ≤ left + 1
   number-few = let number = at.number in omega arith
@@ -181,8 +223,8 @@ module _ (begun t : Table) (levels : List ℕ) (low high left left' : ℕ) (stat
       member-state c inside = let all = size' in forked'.each c (omega arith) ∙ forked-is c (omega arith)
 
       -- where no state is without number of members any more, the last one is that from which on it makes no difference
-      pub member-counted : GoesOn t before u after → length after ≤ left' + 1 → AreCountedTo begun u levels low high left' after
-      member-counted goes_on short = record {
+      pub member-counted : GoesOn t before u after → length after ≤ left' + 1 → node_count u + 1 ≤ node_count t + length before → AreCountedTo begun u levels low high left' after
+      member-counted goes_on short few = record {
         held = member-holds goes_on;
         states_are = λ c inside. elim (cases_lt (c + 1) (length after)) [
           | inl lower ↦ member-state c lower
@@ -190,6 +232,7 @@ module _ (begun t : Table) (levels : List ℕ) (low high left left' : ℕ) (stat
         ];
         number = let all = size' in let number = at.number in omega arith;
         inside = let all = at.inside in omega arith;
+        nodes = nodes-more (node_count u) (let all = ap length same in omega arith);
       }
         where
           last : (c : ℕ) → c < length after → length after ≤ c + 1 → value_at u (slice_index after c) ≡ counted (variables_on order (drop left' levels)) low high c
@@ -206,8 +249,8 @@ module _ (begun t : Table) (levels : List ℕ) (low high left left' : ℕ) (stat
 
       -- where it is that of more members than stand above, it goes
       pub member-counted-short : (w : Table) (last : List ℕ) → last ≡ take (length after - 1) after → GoesOn t before u after → GoesOn u after w last → Grows u w 0 → left' + 1 < length after
-          → AreCountedTo begun w levels low high left' last
-      member-counted-short w last is goes_on goes_on' grows long = record {
+          → node_count u + 1 ≤ node_count t + length before → AreCountedTo begun w levels low high left' last
+      member-counted-short w last is goes_on goes_on' grows long few = record {
         held = holds';
         states_are = λ c inside.
             let inside' : c + 1 < length after = (let few = size-last in let all = size' in omega arith) in
@@ -218,6 +261,7 @@ module _ (begun t : Table) (levels : List ℕ) (low high left left' : ℕ) (stat
             ∙ value-kept u w grows.keeps (slice_index after c) live' (subst (λ (n : ℕ). IsLive w n) place live) ∙ member-state c inside';
         number = let few = size-last in let all = size' in let number = at.number in omega arith;
         inside = let all = at.inside in omega arith;
+        nodes = nodes-more (node_count w) (let all = ap length same in let none = grows.count in omega arith);
       }
         where
           holds' : HoldsStates begun w last

@@ -14,7 +14,7 @@ use Rattle.dd_store.specs.Handles.{GainsHandle, LosesHandle, KeepsHandles, Holds
 use Rattle.dd_store.specs.Order.{level_in, level_of_row}
 use Rattle.dd_store.specs.Reached.{reached}
 use Rattle.dd_store.specs.Size.{Function, cofactors}
-use Rattle.dd_store.specs.Table.{Table, row_of, row_with, level_of, handles_on, value_of, IsLive, IsSound, IsAbove}
+use Rattle.dd_store.specs.Table.{Table, row_of, row_with, level_of, handles_on, node_count, value_of, IsLive, IsSound, IsAbove}
 use Rattle.dd_store.proofs.ChangeLemmas.{keeps_then, keeps_all}
 use Rattle.dd_store.proofs.CountLemmas.{live_more, live_gained, one_on-itself, count_on-at, count_on-push, length-push}
 use Rattle.dd_store.proofs.HandleLemmas.{one_on-other}
@@ -163,6 +163,7 @@ pub record IsForkedTo (start t : Table) (v : ℕ) (before states : List ℕ) (k 
   pub held : AreHeld t states
   pub order : t.order ≡ start.order
   pub sound : IsSound t
+  pub nodes : node_count t ≤ node_count start + k
   pub done : (c : ℕ) → c < k → c < length before → value_at t (slice_index states c)
       ≡ fork v (value_at start (slice_index before c)) (value_at start (slice_index before (c + 1)))
   pub left : (c : ℕ) → k ≤ c → c < length before → value_at t (slice_index states c) ≡ value_at start (slice_index before c)
@@ -176,6 +177,7 @@ forked-none t v states sound held below = record {
   held = held;
   order = refl;
   sound = sound;
+  nodes = omega arith;
   done = λ c none inside. absurd (omega arith);
   left = λ c past inside. refl;
   below = λ c past inside. below c inside;
@@ -184,14 +186,15 @@ forked-none t v states sound held below = record {
 -- one more is forked
 pub forked-more : (start t u : Table) (v : ℕ) (before states states' : List ℕ) (k : ℕ) → k + 1 < length before → IsForkedTo start t v before states k
     → value_at u (slice_index states' k) ≡ fork v (value_at t (slice_index states k)) (value_at t (slice_index states (k + 1)))
-    → ((c : ℕ) → c ≢ k → slice_index states' c ≡ slice_index states c) → length states' ≡ length states → AreHeld u states' → Keeps t u → GoesOn t states u states'
+    → ((c : ℕ) → c ≢ k → slice_index states' c ≡ slice_index states c) → length states' ≡ length states → AreHeld u states' → Keeps t u → GoesOn t states u states' → node_count u ≤ node_count t + 1
     → IsForkedTo start u v before states' (k + 1)
-forked-more start t u v before states states' k inside at value others size held keeps goes_on = record {
+forked-more start t u v before states states' k inside at value others size held keeps goes_on nodes = record {
   size = size ∙ at.size;
   goes_on = λ begun holds. goes_on begun (at.goes_on begun holds);
   held = held;
   order = keeps.order ∙ at.order;
   sound = keeps.sound;
+  nodes = let before' = at.nodes in omega arith;
   done = done';
   left = λ c past within. value-same c (omega arith) within ∙ at.left c (omega arith) within;
   below = λ c past within.

@@ -19,6 +19,7 @@ IsFallingFrom first (l ∷ ls) = (first ≤ l) × IsFallingFrom (suc l) ls
 
 -- The levels of the members, from the top down: the variables on them are the members in another order.
 pub record AreLevelsOf (order members : List Var) (levels : List ℕ) : Type 0 where
+  pub size : length levels ≡ length members
   pub falling : IsFallingFrom 0 levels
   pub within : All (λ l. l < length order) levels
   pub count : (a : ℕ → Bool) → true_count (variables_on order levels) a ≡ true_count members a

@@ -1,10 +1,10 @@
 //! Group cardinalities, counted by nodes alone from the last member up.
-ghost use Rattle.std.specs.Prelude.{◌≡◌, ℕ, ◌<◌, Bool, length, min, IfOk, IfErr, OnErr};
+ghost use Rattle.std.specs.Prelude.{◌≡◌, ℕ, ◌+◌, ◌*◌, ◌<◌, ◌≤◌, Bool, length, min, IfOk, IfErr, OnErr};
 ghost use Rattle.std.specs.List.{All};
 ghost use Rattle.dd_store.specs.Changes.{Keeps};
 ghost use Rattle.dd_store.specs.Exhausted.{value_at};
 ghost use Rattle.dd_store.specs.Handles.{KeepsHandles, GainsHandle};
-ghost use Rattle.dd_store.specs.Table.{value_of};
+ghost use Rattle.dd_store.specs.Table.{value_of, node_count};
 ghost use Rattle.dd_apply.specs.Cause.{IsCause};
 ghost use Rattle.dd_count.specs.Cardinality.{cardinality};
 ghost use Rattle.dd_count.specs.Levels.{IsFallingFrom, variables_on};
@@ -35,6 +35,7 @@ pub fn count(
     ensures gained { IfOk result (GainsHandle kernel.old kernel.new) }
     ensures refused { OnErr result (KeepsHandles kernel.old kernel.new) }
     ensures keeps { Keeps kernel.old kernel.new }
+    ensures nodes { node_count kernel.new ≤ node_count kernel.old + length members.now * (high + 1) }
     ensures cause { IfErr result (IsCause kernel.old kernel.new (cardinality members.now low high)) }
 {
     // The table is sound also where nothing is done.
@@ -58,6 +59,7 @@ fn count_levels(
     ensures gained { IfOk result (GainsHandle kernel.old kernel.new) }
     ensures refused { OnErr result (KeepsHandles kernel.old kernel.new) }
     ensures keeps { Keeps kernel.old kernel.new }
+    ensures nodes { node_count kernel.new ≤ node_count kernel.old + length levels.now * (high + 1) }
     ensures cause { IfErr result (IsCause kernel.old kernel.new
         (cardinality (variables_on kernel.old.order levels.now) low high)) }
 {

@@ -1,9 +1,9 @@
 //! The states of a count, which are made for one member after the other.
-ghost use Rattle.std.specs.Prelude.{◌≡◌, ◌≢◌, ℕ, ◌+◌, ◌-◌, ◌^◌, ◌<◌, [], length, take, slice_index, IfOk, OnOk, IfErr, OnErr};
+ghost use Rattle.std.specs.Prelude.{◌≡◌, ◌≢◌, ℕ, ◌+◌, ◌-◌, ◌^◌, ◌<◌, ◌≤◌, [], length, take, slice_index, IfOk, OnOk, IfErr, OnErr};
 ghost use Rattle.dd_store.specs.Changes.{Grows, Keeps};
 ghost use Rattle.dd_store.specs.Exhausted.{value_at};
 ghost use Rattle.dd_store.specs.Handles.{KeepsHandles};
-ghost use Rattle.dd_store.specs.Table.{IsVariable, IsAbove};
+ghost use Rattle.dd_store.specs.Table.{IsVariable, IsAbove, node_count};
 ghost use Rattle.dd_apply.specs.Held.{IsCauseWithin};
 ghost use Rattle.dd_apply.specs.Split.{fork};
 ghost use Rattle.dd_count.specs.States.{AreStates, AreHeld, AreBelow, AreForked, HoldsStates, GoesOn, IsCauseOver};
@@ -26,6 +26,7 @@ pub(crate) fn last_states(
     ensures held { IfOk result (λ states. HoldsStates kernel.old kernel.new states.items) }
     ensures refused { OnErr result (KeepsHandles kernel.old kernel.new) }
     ensures keeps { Keeps kernel.old kernel.new }
+    ensures nodes { node_count kernel.new ≤ node_count kernel.old }
 {
     // The table is sound also where nothing is done.
     let _order = kernel.order();
@@ -52,6 +53,7 @@ fn fill(
     ensures states { OnOk result (AreStates kernel.new [] low high states.new.items) }
     ensures number { OnOk result (length states.new.items ≡ last + 1) }
     ensures held { HoldsStates kernel.old kernel.new states.new.items }
+    ensures nodes { node_count kernel.new ≤ node_count kernel.old }
 {
     // The table is sound also where nothing is done.
     let _order = kernel.order();
@@ -95,6 +97,7 @@ pub(crate) fn count_member(
     requires below { AreBelow kernel.old member.0 states.old }
     ensures forked { OnOk result (AreForked kernel.old kernel.new member.0 states.old states.new) }
     ensures goes_on { GoesOn kernel.old states.old kernel.new states.new }
+    ensures nodes { node_count kernel.new + 1 ≤ node_count kernel.old + length states.old }
     ensures cause { IfErr result (IsCauseOver kernel.old member.0 states.old kernel.new) }
 {
     // The table is sound also where nothing is done.
@@ -126,6 +129,7 @@ fn fork_state(
     ensures keeps { Keeps kernel.old kernel.new }
     ensures goes_on { GoesOn kernel.old states.old kernel.new states.new }
     ensures refused { OnErr result (states.new ≡ states.old) }
+    ensures nodes { node_count kernel.new ≤ node_count kernel.old + 1 }
     ensures cause { IfErr result (IsCauseWithin kernel.old kernel.new
         (fork member.0 (value_at kernel.old (slice_index states.old before))
         (value_at kernel.old (slice_index states.old (before + 1)))) 0) }

@@ -1,5 +1,5 @@
 -- What stands behind a qualifier and a dot.
-use Rattle.std.proofs.Common.{◌≡◌, ◌≢◌, ◌<◌, ℕ, zero, suc, List, [], ◌∷◌, ◌++◌, drop, Option, Some, None, sym, ap, ◌∙◌, MatchOption, lit<}
+use Rattle.std.proofs.Common.{◌≡◌, ◌≢◌, ℕ, zero, suc, List, [], ◌∷◌, ◌++◌, Option, Some, None, sym, ap, ◌∙◌, MatchOption, lit<}
 use Rattle.std.specs.Prelude.{chars, encode_utf8_all, IsUtf8, IfSome, IfNone}
 use Rattle.std.specs.Str.{IsAscii}
 use Rattle.std.proofs.lemmas.List.{append_cancel_left}

@@ -1,10 +1,10 @@
 -- Names that stand once.
-use Rattle.std.proofs.Common.{◌≡◌, ℕ, zero, suc, ◌+◌, ◌<◌, Bool, true, false, List, [], ◌∷◌, ◌++◌, map, take, drop, length, get_or, refl, sym, ap, ◌∙◌, subst, arith, not, Some, slice_get, if◌then◌else◌}
+use Rattle.std.proofs.Common.{◌≡◌, ℕ, zero, suc, ◌+◌, ◌<◌, Bool, true, false, List, [], ◌∷◌, ◌++◌, map, take, drop, length, get_or, refl, sym, ap, ◌∙◌, subst, arith, Some, slice_get}
 use Rattle.std.specs.Prelude.{◌||◌}
 use Rattle.std.specs.List.{list_any}
 use Rattle.std.specs.Str.{bytes_eq}
 use Rattle.std.proofs.lemmas.Bool.{false≢true}
-use Rattle.std.proofs.lemmas.List.{take_more, drop_more, map-append, append_assoc}
+use Rattle.std.proofs.lemmas.List.{drop_more}
 use Rattle.std.proofs.lemmas.Option.{get_or_from_slice_get}
 use Rattle.std.proofs.lemmas.Bool.Decides.{same_from_decides, Decides-like}
 use Rattle.std.proofs.lemmas.Slice.Eq.{bytes_eq-Decides}
@@ -77,46 +77,6 @@ has-under qualifier [] name = refl
 has-under qualifier (x ∷ names) name =
     ap (λ (b : Bool). b || has (map (prefixed_name qualifier) names) (prefixed_name qualifier name)) (under-eq qualifier name x)
     ∙ ap (λ (b : Bool). bytes_eq name x || b) (has-under qualifier names name)
-
--- none of some names is there, so one of them isn't
-pub none_known : (known names : List (List ℕ)) (i : ℕ) (d : List ℕ) → list_any (has known) names ≡ false → i < length names → has known (get_or names i d) ≡ false
-none_known known [] i d h lt = absurd (omega (arith, lt))
-none_known known (x ∷ names) zero d h lt = (neither (has known x) (list_any (has known) names) h).0
-none_known known (x ∷ names) (suc i) d h lt = none_known known names i d (neither (has known x) (list_any (has known) names) h).1 (omega (arith, lt))
-
--- what is under a qualifier and in none of two lists
-not_there : (start names : List (List ℕ)) (qualifier name : List ℕ) (i : ℕ) → AreDistinct names
-    → list_any (has start) (map (prefixed_name qualifier) names) ≡ false → i < length names → get_or names i name ≡ name
-    → has (start ++ map (prefixed_name qualifier) (take i names)) (prefixed_name qualifier name) ≡ false
-not_there start names qualifier name i distinct unknown lt same =
-    has-append start (map (prefixed_name qualifier) (take i names)) (prefixed_name qualifier name)
-    (subst (λ (n : List ℕ). has start (prefixed_name qualifier n) ≡ false) same (unknown_at start names qualifier i name unknown lt))
-    (has-under qualifier (take i names) name ∙ subst (λ (n : List ℕ). has (take i names) n ≡ false) same (not_in_front names i name distinct lt))
-  where
-    unknown_at : (start names : List (List ℕ)) (qualifier : List ℕ) (i : ℕ) (d : List ℕ) → list_any (has start) (map (prefixed_name qualifier) names) ≡ false
-        → i < length names → has start (prefixed_name qualifier (get_or names i d)) ≡ false
-    unknown_at start [] qualifier i d h l = absurd (omega (arith, l))
-    unknown_at start (x ∷ names) qualifier zero d h l =
-        (neither (has start (prefixed_name qualifier x)) (list_any (has start) (map (prefixed_name qualifier) names)) h).0
-    unknown_at start (x ∷ names) qualifier (suc i) d h l =
-        unknown_at start names qualifier i d
-        (neither (has start (prefixed_name qualifier x)) (list_any (has start) (map (prefixed_name qualifier) names)) h).1 (omega (arith, l))
-
--- a name under the qualifier is added behind those in front of it
-pub under_added : (start here new names : List (List ℕ)) (qualifier name : List ℕ) (i : ℕ) (is_new : Bool) → AreDistinct names
-    → list_any (has start) (map (prefixed_name qualifier) names) ≡ false → here ≡ start ++ map (prefixed_name qualifier) (take i names) → i < length names
-    → slice_get names i ≡ Some name → is_new ≡ not (has here (prefixed_name qualifier name))
-    → new ≡ (if is_new then here ++ prefixed_name qualifier name ∷ [] else here) → new ≡ start ++ map (prefixed_name qualifier) (take (i + 1) names)
-under_added start here new names qualifier name i is_new distinct unknown is lt at new_is becomes =
-    let same : get_or names i name ≡ name = get_or_from_slice_get names i name name at in
-    let absent : has here (prefixed_name qualifier name) ≡ false =
-    ap (λ (ns : List (List ℕ)). has ns (prefixed_name qualifier name)) is ∙ not_there start names qualifier name i distinct unknown lt same in
-    becomes ∙ ap (λ (b : Bool). if b then here ++ prefixed_name qualifier name ∷ [] else here) (new_is ∙ ap not absent)
-    ∙ ap (λ (front : List (List ℕ)). front ++ prefixed_name qualifier name ∷ []) is
-    ∙ append_assoc start (map (prefixed_name qualifier) (take i names)) (prefixed_name qualifier name ∷ [])
-    ∙ ap (λ (ns : List (List ℕ)). start ++ ns)
-    (sym (map-append (prefixed_name qualifier) (take i names) (name ∷ []))
-    ∙ ap (map (prefixed_name qualifier)) (ap (λ (n : List ℕ). take i names ++ n ∷ []) (sym same) ∙ sym (take_more names i name lt)))
 
 pub drop_at : (names : List (List ℕ)) (name : List ℕ) (i : ℕ) → i < length names → slice_get names i ≡ Some name → drop i names ≡ name ∷ drop (i + 1) names
 drop_at names name i lt at = drop_more names i name lt ∙ ap (λ (n : List ℕ). n ∷ drop (i + 1) names) (get_or_from_slice_get names i name name at)

@@ -1,10 +1,10 @@
 -- Texts that grow by names and dots.
 use Rattle.std.proofs.Common.{◌≡◌, ℕ, ◌+◌, ◌<◌, List, [], ◌∷◌, ◌++◌, length, drop, get_or, refl, sym, ap, ◌∙◌, string_bytes, String, Result, Ok, Err, OnOk}
-use Rattle.std.specs.Prelude.{chars, encode_utf8_all}
+use Rattle.std.specs.Prelude.{chars}
 use Rattle.std.proofs.lemmas.List.{append_assoc}
 use Rattle.std.proofs.lemmas.List.{drop_more}
 use Rattle.std.proofs.lemmas.Str.{chars-append, chars-encodes, chars-nil, IsUtf8-string_bytes}
-use Rattle.uvl_placing.specs.Names.{dotted, behind_dots}
+use Rattle.uvl_placing.specs.Names.{behind_dots}
 use Rattle.uvl_semantics.specs.Prefix.{prefixed_name}
 
 -- what follows from a fact where a call succeeds

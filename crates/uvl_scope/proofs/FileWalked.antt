@@ -1,8 +1,7 @@
 -- The faults of a file and what is in scope in it, as the walk meets them.
-use Rattle.std.proofs.Common.{◌≡◌, ℕ, ◌+◌, List, [], ◌∷◌, ◌++◌, length, Option, Some, None, Result, Ok, Err, refl, sym, ap, ◌∙◌, subst}
+use Rattle.std.proofs.Common.{◌≡◌, ℕ, List, [], ◌∷◌, ◌++◌, Option, Some, None, Result, Err, refl, sym, ap, ◌∙◌, subst}
 use Rattle.std.specs.Option.{option_or}
 use Rattle.std.proofs.Math.Path.{fun_ext}
-use Rattle.uvl_base.specs.declared.place.Place.{Place}
 use Rattle.uvl_ast.specs.declared.expression.Expr.{Expr}
 use Rattle.uvl_ast.specs.declared.feature.Feature.{Feature}
 use Rattle.uvl_ast.specs.Rules.{all_rules_of_root, all_rules, rules_of}
@@ -18,9 +17,8 @@ use Rattle.uvl_scope.specs.Brought.{Brought, Placing, nothing, placed_scope, sco
 use Rattle.uvl_scope.specs.Faults.{missing_features, brought_in, fault_in_file, scope_of, scope_with}
 use Rattle.uvl_scope.specs.Firsts.{first_of, first_along}
 use Rattle.uvl_scope.specs.LineFaults.{Finding, fault_of_line}
-use Rattle.uvl_scope.specs.Lines.{Line, lines_from, lines_of}
+use Rattle.uvl_scope.specs.Lines.{lines_from, lines_of}
 use Rattle.uvl_scope.specs.RuleFaults.{fault_of_rule}
-use Rattle.uvl_scope.specs.Rules.{nodes_in}
 use Rattle.uvl_scope.specs.steps.Offers.{Calls, placed_by}
 use Rattle.uvl_scope.specs.steps.Walk.{AddsRules, IsFound, brought_of, brought_from, fault_from, fault_from_rules, fault_in_rules}
 use Rattle.uvl_scope.proofs.Together.{brought_all, first_of_lines, first_of_rules}

@@ -1,7 +1,7 @@
 -- The fault of a line that is to place a file.
-use Rattle.std.proofs.Common.{◌≡◌, ◌≢◌, ℕ, Bool, true, false, List, [], ◌∷◌, length, Option, Some, None, refl, sym, ap, ◌∙◌, arith, not, ◌==◌, suc, ◌+◌, slice_get}
-use Rattle.std.specs.Prelude.{◌||◌, ◌&&◌, nat_lt}
-use Rattle.std.specs.Option.{option_or, option_map, is_none}
+use Rattle.std.proofs.Common.{◌≡◌, ℕ, Bool, true, false, List, [], ◌∷◌, length, Option, Some, None, refl, sym, ap, ◌∙◌, arith, not, ◌==◌, suc, ◌+◌, slice_get}
+use Rattle.std.specs.Prelude.{◌||◌, ◌&&◌}
+use Rattle.std.specs.Option.{option_map, is_none}
 use borrow.Author.Tests.{ne_eqb}
 use Rattle.std.proofs.lemmas.Bool.{false≢true}
 use Rattle.uvl_base.specs.declared.place.Place.{Place}
@@ -10,7 +10,7 @@ use Rattle.uvl_ast.specs.declared.feature.Attribute.{Attribute}
 use Rattle.uvl_semantics.specs.Product.{has}
 use Rattle.uvl_placing.specs.Names.{dotted, front_of}
 use Rattle.uvl_scope.specs.declared.scope.Scope.{Scope}
-use Rattle.uvl_scope.specs.Brought.{Brought, Placing, is_placing, brought_at, brought_by, placed}
+use Rattle.uvl_scope.specs.Brought.{Brought, Placing, is_placing, brought_at, placed}
 use Rattle.uvl_scope.specs.Firsts.{when, first_of}
 use Rattle.uvl_scope.specs.Keys.{repeated_key}
 use Rattle.uvl_scope.specs.LineFaults.{Finding, finding, has_more, is_too_deep, has_known_name, is_too_large, are_too_many, fault_behind}

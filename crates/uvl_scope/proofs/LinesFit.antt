@@ -16,13 +16,13 @@ use Rattle.uvl_imports.specs.declared.file_set.Loaded.{Loaded}
 use Rattle.uvl_placing.specs.Files.{imports_of}
 use Rattle.uvl_placing.specs.Names.{dotted, front_of}
 use Rattle.uvl_placing.specs.Options.{of_both}
-use Rattle.uvl_placing.specs.Trees.{Imports, Branch, tree_of_names, tree_placed, members_of, groups_of, branch_of, tree_of_feature, branch_of_group, tree_of_line, branch_of_written}
+use Rattle.uvl_placing.specs.Trees.{Imports, Branch, tree_of_names, members_of, groups_of, branch_of, tree_of_feature, branch_of_group, tree_of_line, branch_of_written}
 use Rattle.uvl_scope.specs.declared.scope.Scope.{Scope}
-use Rattle.uvl_scope.specs.Brought.{Brought, Placing, nothing, together, declared, placed, placed_scope, brought_at, brought_by, brought_by_lines, is_placing}
+use Rattle.uvl_scope.specs.Brought.{Brought, Placing, nothing, together, declared, placed, placed_scope, brought_at, brought_by_lines, is_placing}
 use Rattle.uvl_scope.specs.LineFaults.{has_more}
 use Rattle.uvl_scope.specs.Lines.{Line, of_feature, line_of, lines_from, lines_below}
-use Rattle.uvl_scope.proofs.NoFault.{PlacesOne, IsPlaced, fails_second, fail_both}
-use Rattle.uvl_scope.proofs.Placements.{AllFit, Places, scope_places}
+use Rattle.uvl_scope.proofs.NoFault.{PlacesOne, IsPlaced, fails_second}
+use Rattle.uvl_scope.proofs.Placements.{AllFit, scope_places}
 use Rattle.uvl_scope.proofs.Prefixing.{names-prefixed, depth-prefixed}
 use Rattle.uvl_scope.proofs.Together.{brought-append}
 use Rattle.uvl_scope.proofs.WalkLines.{lines_of_groups, lines_of_members, group_line, lines_at, lines_in}

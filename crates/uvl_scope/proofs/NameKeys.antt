@@ -1,5 +1,5 @@
 -- The keys of an index of names, read as names: by their characters.
-use Rattle.std.proofs.Common.{◌≡◌, ℕ, false, List, [], ◌∷◌, ◌++◌, map, position, Option, Some, slice_get, Decides, refl, sym, ap, ◌∙◌, if◌then◌else◌, string_bytes, String}
+use Rattle.std.proofs.Common.{◌≡◌, ℕ, false, List, [], ◌∷◌, ◌++◌, map, position, Some, slice_get, refl, sym, ap, ◌∙◌, if◌then◌else◌, string_bytes, String}
 use Rattle.std.specs.Prelude.{IsUtf8, chars, encode_utf8_all}
 use Rattle.std.specs.List.{list_any, position_or_len}
 use Rattle.std.specs.Str.{bytes_eq}

@@ -1,5 +1,5 @@
 -- What holds where no fault is found.
-use Rattle.std.proofs.Common.{◌≡◌, ℕ, ◌≤◌, Bool, true, false, List, [], ◌∷◌, Option, Some, None, refl, sym, ap, ◌∙◌, arith}
+use Rattle.std.proofs.Common.{◌≡◌, ℕ, ◌≤◌, Bool, true, false, List, [], ◌∷◌, Option, Some, None, refl, sym, arith}
 use Rattle.std.specs.Prelude.{◌||◌, ◌&&◌, nat_lt}
 use Rattle.std.specs.List.{All}
 use Rattle.std.specs.Option.{option_or, option_map}
@@ -12,7 +12,7 @@ use Rattle.uvl_scope.specs.Brought.{Brought, Placing, brought_by, together}
 use Rattle.uvl_scope.specs.Firsts.{when, first_of}
 use Rattle.uvl_scope.specs.Keys.{repeated_key}
 use Rattle.uvl_scope.specs.LineFaults.{finding, places_nothing, is_placed_again, has_body, is_too_deep, has_known_name, is_too_large, has_too_many_rules, fault_of_feature, fault_behind}
-use Rattle.uvl_scope.specs.Lines.{FeatureLine, GroupLine, Line, of_feature, of_group}
+use Rattle.uvl_scope.specs.Lines.{FeatureLine, Line, of_feature, of_group}
 use Rattle.uvl_scope.specs.steps.Walk.{fault_from}
 
 -- neither of two answers is there

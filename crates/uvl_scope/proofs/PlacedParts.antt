@@ -1,5 +1,5 @@
 -- The parts of a reference that places a file.
-use Rattle.std.proofs.Common.{◌≡◌, ℕ, ◌-◌, ◌+◌, List, [], ◌∷◌, ◌++◌, length, take, Option, refl, sym, ap, ◌∙◌, arith}
+use Rattle.std.proofs.Common.{◌≡◌, ℕ, ◌-◌, List, [], ◌∷◌, ◌++◌, length, take, Option, refl, sym, ap, ◌∙◌, arith}
 use Rattle.std.proofs.lemmas.List.{length-append}
 use Rattle.uvl_placing.specs.Names.{dotted, front_of, last_of}
 use Rattle.uvl_scope.specs.declared.imports.Imports.{Imports}

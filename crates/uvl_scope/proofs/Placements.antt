@@ -1,5 +1,5 @@
 -- The scope that a reference places is that of the tree that it places.
-use Rattle.std.proofs.Common.{◌≡◌, ℕ, zero, suc, Bool, true, false, List, [], ◌∷◌, ◌++◌, length, map, Option, Some, None, slice_get, refl, sym, ap, ◌∙◌, subst, if◌then◌else◌, inl, inr, arith}
+use Rattle.std.proofs.Common.{◌≡◌, ℕ, zero, suc, Bool, true, false, List, [], ◌∷◌, ◌++◌, length, Option, Some, None, slice_get, refl, sym, ap, ◌∙◌, subst, if◌then◌else◌, inl, inr, arith}
 use Rattle.std.specs.Prelude.{◌⊎◌}
 use Rattle.std.specs.Option.{option_map, option_and_then}
 use Rattle.std.specs.Str.{bytes_eq}
@@ -7,7 +7,7 @@ use Rattle.uvl_imports.specs.declared.file_set.Loaded.{Loaded}
 use Rattle.uvl_placing.specs.Files.{imports_of}
 use Rattle.uvl_placing.specs.Names.{dotted, front_of, last_of, target_called}
 use Rattle.uvl_placing.specs.Options.{known}
-use Rattle.uvl_placing.specs.Trees.{tree_called, tree_placed}
+use Rattle.uvl_placing.specs.Trees.{tree_placed}
 use Rattle.uvl_placing.specs.Trees.{with_root as tree_with_root}
 use Rattle.uvl_scope.specs.declared.scope.Scope.{Scope}
 use Rattle.uvl_scope.specs.Brought.{has_root, with_root, scope_at, placed_scope}

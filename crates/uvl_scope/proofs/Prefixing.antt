@@ -1,5 +1,5 @@
 -- Trees under a qualifier.
-use Rattle.std.proofs.Common.{◌≡◌, ℕ, ◌+◌, max, List, [], ◌∷◌, ◌++◌, map, refl, sym, ap, ◌∙◌}
+use Rattle.std.proofs.Common.{◌≡◌, ℕ, ◌+◌, max, List, ◌∷◌, ◌++◌, map, refl, sym, ap, ◌∙◌}
 use Rattle.std.proofs.lemmas.List.{map-append}
 use Rattle.uvl_semantics.specs.Prefix.{prefixed_name, prefixed, prefixed_groups, prefixed_members}
 use Rattle.uvl_semantics.specs.Tree.{Tree, Groups, Members, feature, no_groups, group, no_members, member, names_of, names_of_groups, names_of_members, depth_of, depth_of_groups, depth_of_members}

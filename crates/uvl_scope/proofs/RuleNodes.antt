@@ -10,7 +10,7 @@ use Rattle.uvl_ast.specs.declared.expression.Expr.TheVariants.{rolls-Number, rol
 use Rattle.uvl_ast.specs.declared.expression.Expr.TheOpen.{Expr-F}
 use Rattle.uvl_ast.specs.declared.expression.Expr.TheFolds.{fold-roll-Expr}
 use Rattle.uvl_ast.specs.Nodes.{node_count, nodes_of}
-use Rattle.uvl_scope.specs.Rules.{joins_truths, speaks_of_numbers, has_numbers, references_at, references_in, place_of_node, place_of}
+use Rattle.uvl_scope.specs.Rules.{joins_truths, speaks_of_numbers, has_numbers, references_at, references_in}
 
 pub nodes_number : (v : ℤ) (p : Place) → nodes_of (expr.Number v p) ≡ 1
 nodes_number v p = ap nodes_of (sym (rolls-Number v p)) ∙ fold-roll-Expr ℕ node_count (Expr-F.Number v p)

@@ -1,20 +1,18 @@
 -- The scopes of files without fault are of their trees.
-use Rattle.std.proofs.Common.{◌≡◌, ℕ, ◌+◌, List, [], ◌∷◌, ◌++◌, length, Option, Some, None, slice_get, refl, sym, ap, ◌∙◌, subst, zero-add}
-use Rattle.std.specs.Option.{option_or, option_map}
-use Rattle.uvl_base.specs.declared.fault.ModelFault.{ModelFault}
+use Rattle.std.proofs.Common.{◌≡◌, List, [], ◌∷◌, ◌++◌, Option, Some, None, refl, sym, ap, ◌∙◌, subst, zero-add}
 use Rattle.uvl_ast.specs.declared.feature.Feature.{Feature}
 use Rattle.uvl_ast.specs.Rules.{rules_of}
 use Rattle.uvl_imports.specs.declared.file_set.Loaded.{Loaded}
-use Rattle.uvl_placing.specs.Files.{imports_of, tree_of_root, tree_of_file, trees_behind, placed}
+use Rattle.uvl_placing.specs.Files.{imports_of, tree_of_root, tree_of_file, trees_behind}
 use Rattle.uvl_scope.specs.declared.scope.Scope.{Scope}
 use Rattle.uvl_scope.specs.Brought.{Brought, placed_scope, nothing, brought_by_lines}
 use Rattle.uvl_scope.specs.Faults.{brought_in, fault_in_file, fault_of_file, in_file, scope_of, scope_with, scopes_behind, scopes_of}
 use Rattle.uvl_scope.specs.Firsts.{first_along}
 use Rattle.uvl_scope.specs.Lines.{lines_from, lines_of}
-use Rattle.uvl_scope.specs.Trees.{IsScopeOf, IsWithinLimits, HasScope, ScopesAreOfTrees}
+use Rattle.uvl_scope.specs.Trees.{IsScopeOf, IsWithinLimits, ScopesAreOfTrees}
 use Rattle.uvl_scope.proofs.FileWalked.{brought_with, lines_fault, rules_fault, fault_is, fault_missing}
 use Rattle.uvl_scope.proofs.FilesWalked.{scopes_more}
-use Rattle.uvl_scope.proofs.LinesFit.{LineFits, line_fits}
+use Rattle.uvl_scope.proofs.LinesFit.{line_fits}
 use Rattle.uvl_scope.proofs.NoFault.{neither, none_mapped, all_placed}
 use Rattle.uvl_scope.proofs.Placements.{Fits, AllFit, none_fit, one_more_fits, scope_places}
 use Rattle.uvl_scope.proofs.Together.{brought_all}

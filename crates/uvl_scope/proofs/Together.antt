@@ -1,12 +1,12 @@
 -- What lines bring together, and the faults of lines and of rules, each met with those in front of it.
-use Rattle.std.proofs.Common.{◌≡◌, ℕ, ◌+◌, max, List, [], ◌∷◌, ◌++◌, length, Option, refl, sym, ap, ◌∙◌, arith}
+use Rattle.std.proofs.Common.{◌≡◌, ℕ, ◌+◌, List, [], ◌∷◌, ◌++◌, length, refl, sym, ap, ◌∙◌, arith}
 use Rattle.std.specs.Option.{option_or}
 use Rattle.std.proofs.lemmas.List.{append_assoc, append-nil, length-append}
 use Rattle.uvl_ast.specs.declared.expression.Expr.{Expr}
 use Rattle.uvl_ast.specs.Nodes.{nodes_of}
 use Rattle.uvl_scope.specs.Brought.{Brought, Placing, nothing, together, brought_by, brought_by_lines}
 use Rattle.uvl_scope.specs.Firsts.{first_along}
-use Rattle.uvl_scope.specs.LineFaults.{Finding, fault_behind, fault_of_line}
+use Rattle.uvl_scope.specs.LineFaults.{fault_behind, fault_of_line}
 use Rattle.uvl_scope.specs.Lines.{Line}
 use Rattle.uvl_scope.specs.RuleFaults.{fault_behind_rules, fault_of_rule}
 use Rattle.uvl_scope.specs.Rules.{nodes_in}

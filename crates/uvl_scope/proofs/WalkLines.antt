@@ -1,11 +1,11 @@
 -- The lines of features and of groups, line by line.
-use Rattle.std.proofs.Common.{◌≡◌, ℕ, ◌+◌, List, [], ◌∷◌, ◌++◌, map, length, sym, ap, ◌∙◌}
+use Rattle.std.proofs.Common.{◌≡◌, ℕ, ◌+◌, List, ◌∷◌, map, ap, ◌∙◌}
 use Rattle.std.specs.List.{flat_map}
 use Rattle.std.proofs.lemmas.List.{length-map}
 use Rattle.uvl_ast.specs.declared.feature.Feature.{Feature, out-Feature}
 use Rattle.uvl_ast.specs.declared.feature.Feature.TheFolds.{fold_out-Feature, fold_out-Group}
 use Rattle.uvl_ast.specs.declared.feature.Group.{Group, out-Group}
-use Rattle.uvl_scope.specs.Lines.{FeatureLine, GroupLine, Line, of_feature, of_group, line_of, lines_of_feature, lines_of_group, lines_from, lines_below}
+use Rattle.uvl_scope.specs.Lines.{Line, of_feature, of_group, line_of, lines_of_feature, lines_of_group, lines_from, lines_below}
 
 abbrev pub lines_of_groups : ℕ → List Group → List Line
 lines_of_groups depth groups = flat_map (λ (lines : ℕ → List Line). lines depth) (map lines_below groups)

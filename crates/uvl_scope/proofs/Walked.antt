@@ -1,11 +1,11 @@
 -- Lines one after another.
-use Rattle.std.proofs.Common.{◌≡◌, ℕ, List, [], ◌∷◌, ◌++◌, Option, Some, None, refl, sym, ap, ◌∙◌, subst, Result, Ok, Err, OnOk}
+use Rattle.std.proofs.Common.{◌≡◌, List, [], ◌∷◌, ◌++◌, Option, None, refl, sym, ap, ◌∙◌, subst, Result, Ok, Err}
 use Rattle.std.specs.Option.{option_or}
 use Rattle.std.specs.Result.{IsErrAnd}
 use Rattle.uvl_scope.specs.declared.fault.FileFault.{FileFault}
 use Rattle.uvl_scope.specs.declared.fault.FileFault.TheVariants as fault
 use Rattle.uvl_scope.specs.Brought.{Brought, Placing, brought_by, together}
-use Rattle.uvl_scope.specs.LineFaults.{Finding, finding, fault_behind}
+use Rattle.uvl_scope.specs.LineFaults.{Finding, fault_behind}
 use Rattle.uvl_scope.specs.Lines.{Line}
 use Rattle.uvl_scope.specs.steps.Walk.{IsFound, fault_from, brought_from}
 use Rattle.uvl_scope.proofs.Unknown.{or_assoc}

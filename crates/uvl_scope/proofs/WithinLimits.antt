@@ -1,5 +1,5 @@
 -- What lines and rules without fault bring is within the limits.
-use Rattle.std.proofs.Common.{◌≡◌, ℕ, ◌+◌, ◌-◌, ◌≤◌, max, Bool, true, false, List, [], ◌∷◌, ◌++◌, map, length, Option, Some, None, refl, sym, ap, ◌∙◌, subst, arith}
+use Rattle.std.proofs.Common.{◌≡◌, ℕ, ◌+◌, ◌≤◌, Bool, true, false, List, [], ◌∷◌, ◌++◌, map, length, Option, Some, None, refl, sym, ap, ◌∙◌, subst, arith}
 use Rattle.std.specs.Prelude.{◌||◌, ◌&&◌, nat_lt}
 use Rattle.std.specs.List.{list_any}
 use Rattle.std.specs.Option.{option_map}
@@ -15,12 +15,11 @@ use Rattle.uvl_placing.specs.Names.{dotted, front_of}
 use Rattle.uvl_scope.specs.declared.scope.Scope.{Scope}
 use Rattle.uvl_scope.specs.Brought.{Brought, Placing, nothing, together, placed, brought_at, brought_by, is_placing}
 use Rattle.uvl_scope.specs.Firsts.{when, first_of}
-use Rattle.uvl_scope.specs.LineFaults.{Finding, finding, fault_behind, fault_of_feature, are_too_many}
+use Rattle.uvl_scope.specs.LineFaults.{finding, fault_behind, fault_of_feature, are_too_many}
 use Rattle.uvl_scope.specs.Limits.{most_rules, most_nodes}
 use Rattle.uvl_scope.specs.Lines.{FeatureLine, Line, of_feature, of_group}
 use Rattle.uvl_scope.specs.RuleFaults.{fault_behind_rules, unknown_place}
 use Rattle.uvl_scope.specs.Rules.{nodes_in, place_of, references_of}
-use Rattle.uvl_scope.specs.Trees.{IsWithinLimits}
 use Rattle.uvl_scope.specs.steps.Walk.{fault_from, brought_from, fault_from_rules}
 use Rattle.uvl_scope.proofs.Distinct.{eq-sym, has-append, has-under}
 use Rattle.uvl_scope.proofs.NoFault.{neither, fails, fail_both, not_less, line_is_fine}

@@ -1,11 +1,11 @@
 -- What lines bring to the placed tree of their file: a feature of their own, or the placed tree of another file.
-use Rattle.std.specs.Prelude.{ℕ, ◌+◌, ◌-◌, max, Bool, true, false, List, [], ◌∷◌, ◌++◌, map, length, slice_get, Option, Some, None, if◌then◌else◌}
+use Rattle.std.specs.Prelude.{ℕ, ◌+◌, ◌-◌, max, Bool, true, false, List, [], ◌∷◌, ◌++◌, map, slice_get, Option, Some, None, if◌then◌else◌}
 use Rattle.std.specs.Str.{bytes_eq}
 use Rattle.uvl_imports.specs.declared.file_set.Loaded.{Loaded}
 use Rattle.uvl_semantics.specs.Prefix.{prefixed_name}
 use Rattle.uvl_placing.specs.Names.{dotted, front_of, last_of, target_called}
 use Rattle.uvl_scope.specs.declared.scope.Scope.{Scope}
-use Rattle.uvl_scope.specs.Lines.{FeatureLine, Line, of_feature, of_group}
+use Rattle.uvl_scope.specs.Lines.{Line, of_feature, of_group}
 
 -- names in document order, the qualifiers that are placed, how deep the deepest feature stands, and how many rules and
 -- nodes of rules the placed files have

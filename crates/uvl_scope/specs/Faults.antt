@@ -1,5 +1,5 @@
 -- What is wrong first in a set of files, and what is in scope in each. This project's own.
-use Rattle.std.specs.Prelude.{◌≡◌, ⊤, ℕ, ◌+◌, Bool, true, false, List, [], ◌∷◌, ◌++◌, length, Option, Some, None}
+use Rattle.std.specs.Prelude.{◌≡◌, ⊤, ◌+◌, Bool, true, false, List, [], ◌∷◌, ◌++◌, length, Option, Some, None}
 use Rattle.std.specs.List.{list_any}
 use Rattle.std.specs.Option.{option_map}
 use Rattle.uvl_base.specs.declared.fault.FaultKind.TheVariants.{MissingFeatures}
@@ -7,7 +7,6 @@ use Rattle.uvl_base.specs.declared.fault.ModelFault.{ModelFault}
 use Rattle.uvl_base.specs.declared.place.Place.{Place}
 use Rattle.uvl_ast.specs.declared.expression.Expr.{Expr}
 use Rattle.uvl_ast.specs.declared.feature.Feature.{Feature}
-use Rattle.uvl_ast.specs.declared.file.File.{File}
 use Rattle.uvl_ast.specs.Rules.{rules_of}
 use Rattle.uvl_imports.specs.declared.file_set.Loaded.{Loaded}
 use Rattle.uvl_scope.specs.declared.fault.ScopeFault.{ScopeFault}

@@ -1,5 +1,5 @@
 -- The scopes of files against their placed trees.
-use Rattle.std.specs.Prelude.{◌≡◌, ◌≤◌, ℕ, List, Option, Some, slice_get, length}
+use Rattle.std.specs.Prelude.{◌≡◌, ◌≤◌, ℕ, List, Some, slice_get, length}
 use Rattle.uvl_base.specs.Limits.{most_features, most_depth}
 use Rattle.uvl_imports.specs.declared.file_set.Loaded.{Loaded}
 use Rattle.uvl_imports.specs.Texts.{AreDistinct}

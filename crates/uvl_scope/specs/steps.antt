@@ -4,3 +4,4 @@ pub mod Lines
 pub mod Offers
 pub mod Walk
 pub mod Files
+pub mod Keys

@@ -1,12 +1,17 @@
 //! Keys of attributes that stand twice.
-ghost use Rattle.std.specs.Prelude.{◌≡◌, map, IfOk};
+ghost use Rattle.std.specs.Prelude.{◌≡◌, ◌∷◌, [], ◌++◌, true, chars, map, not, IfOk};
 ghost use Rattle.uvl_scope.specs.Firsts.{first_of};
 ghost use Rattle.uvl_scope.specs.Keys.{repeated_in, repeated_key};
+ghost use Rattle.uvl_scope.specs.steps.Keys.{IsKept, keys_of};
+ghost use Rattle.uvl_semantics.specs.Product.{has};
 
-use crate::names::NameIndex;
+use crate::names::{NameIndex, is_same};
 use std::alloc::Global;
 use uvl_ast::{AttrValue, Attribute};
 use uvl_base::{OutOfMemory, Place};
+
+/// The most attributes of a list without an index of its keys: each is compared with those in front of it.
+const MOST_COMPARED: usize = 8;
 
 /// Where a key stands for the second time in attributes or in a list of their values: the first such
 /// place in the text.
@@ -17,9 +22,9 @@ pub(crate) fn repeated_key(
 ) -> Result<Option<Place>, OutOfMemory>
     ensures { IfOk result (λ place. place ≡ repeated_key attributes.now) }
 {
-    let mut keys = NameIndex::new(alloc);
-    for attribute in attributes {
-        if !keys.add(attribute.key.text())? {
+    let mut index = index_for(alloc, attributes);
+    for (number, attribute) in attributes.iter().enumerate() {
+        if !is_new(&mut index, &attributes[..number], attribute.key.text())? {
             return Ok(Some(attribute.place));
         }
         if let Some(place) = repeated_in(alloc, &attribute.value)? {
@@ -52,4 +57,43 @@ fn repeated_among(alloc: Global, values: &[AttrValue]) -> Result<Option<Place>, 
         }
     }
     Ok(None)
+}
+
+/// An index for the keys of attributes, where they are many.
+fn index_for(alloc: Global, attributes: &[Attribute]) -> Option<NameIndex>
+    ensures { IsKept result [] }
+{
+    if attributes.len() > MOST_COMPARED {
+        Some(NameIndex::new(alloc))
+    } else {
+        None
+    }
+}
+
+/// Whether a key is none of those of the attributes in front of it. A new key is put into the index.
+fn is_new(
+    index: &mut Option<NameIndex>,
+    front: &[Attribute],
+    key: &str,
+) -> Result<bool, OutOfMemory>
+    requires { IsKept index.old (keys_of front.now) }
+    ensures known { IfOk result (λ new. new ≡ not (has (keys_of front.now) (chars key.now))) }
+    ensures kept { IfOk result (λ new. new ≡ true → IsKept index.new (keys_of front.now ++ chars key.now ∷ [])) }
+{
+    match index {
+        Some(keys) => keys.add(key),
+        None => Ok(!has_key(front, key)),
+    }
+}
+
+/// Whether a key is one of those of the attributes.
+fn has_key(attributes: &[Attribute], key: &str) -> bool
+    ensures { result ≡ has (keys_of attributes.now) (chars key.now) }
+{
+    for attribute in attributes {
+        if is_same(key, attribute.key.text()) {
+            return true;
+        }
+    }
+    false
 }

@@ -159,7 +159,7 @@ fn behind<'a>(qualifier: &str, name: &'a str) -> Option<&'a str>
 }
 
 /// Whether two texts are the same.
-fn is_same(first: &str, second: &str) -> bool
+pub(crate) fn is_same(first: &str, second: &str) -> bool
     ensures { result ≡ bytes_eq (chars first.now) (chars second.now) }
 {
     first == second

@@ -23,18 +23,18 @@ enum Asked {
 const ALL: [Asked; 5] = [Asked::And, Asked::Or, Asked::Xor, Asked::Not, Asked::Ite];
 
 /// How many variables the tables with lists of truth values have. A list has a bit for each assignment: bit r is the
-/// value where variable k is bit k of r.
+/// value where the last variable is bit 0 of r, the one before bit 1, and so on.
 const VARIABLES: u32 = 6;
 /// The list of the constant yes.
 const YES: u64 = 0xffff_ffff_ffff_ffff;
 /// The lists of the variables.
 const LISTS: [u64; 6] = [
-    0xaaaa_aaaa_aaaa_aaaa,
-    0xcccc_cccc_cccc_cccc,
-    0xf0f0_f0f0_f0f0_f0f0,
-    0xff00_ff00_ff00_ff00,
-    0xffff_0000_ffff_0000,
     0xffff_ffff_0000_0000,
+    0xffff_0000_ffff_0000,
+    0xff00_ff00_ff00_ff00,
+    0xf0f0_f0f0_f0f0_f0f0,
+    0xcccc_cccc_cccc_cccc,
+    0xaaaa_aaaa_aaaa_aaaa,
 ];
 
 impl Asked {
@@ -74,20 +74,20 @@ fn ask(
     }
 }
 
-/// The list of truth values of a handle.
-fn list_of(rt: &impl Abort, kernel: &Kernel, handle: &Handle) -> u64
+/// The first bits of a handle's list of truth values, so many of them.
+fn list_of(rt: &impl Abort, kernel: &Kernel, handle: &Handle, rows: u32) -> u64
     requires { IsLive kernel.now handle.now }
 {
     assert!(rt; kernel.variables() == VARIABLES);
     let mut list = 0u64;
-    for row in 0u32..64 {
+    for row in 0..rows.min(64) {
         let assignment = [
-            row & 1 != 0,
-            row & 2 != 0,
-            row & 4 != 0,
-            row & 8 != 0,
-            row & 16 != 0,
             row & 32 != 0,
+            row & 16 != 0,
+            row & 8 != 0,
+            row & 4 != 0,
+            row & 2 != 0,
+            row & 1 != 0,
         ];
         if kernel.value(handle, &assignment) {
             list |= 1u64 << row;
@@ -111,7 +111,7 @@ fn literal(kernel: &mut Kernel, alloc: Global, variable: u32) -> Result<Handle, 
     Ok(made)
 }
 
-/// A handle on a function of the first variables, so many of them, by its list.
+/// A handle on a function of the last variables, so many of them, by its list.
 fn function(kernel: &mut Kernel, alloc: Global, list: u64, variables: u32) -> Result<Handle, Refusal>
     ensures gained { IfOk result (GainsHandle kernel.old kernel.new) }
 {
@@ -121,7 +121,7 @@ fn function(kernel: &mut Kernel, alloc: Global, list: u64, variables: u32) -> Re
     let rows = 1u32 << (variables - 1);
     let low = function(kernel, alloc, list, variables - 1)?;
     let high = function(kernel, alloc, list >> rows, variables - 1)?;
-    let variable = literal(kernel, alloc, variables - 1)?;
+    let variable = literal(kernel, alloc, VARIABLES - variables)?;
     let made = kernel.ite(alloc, &variable, &high, &low)?;
     kernel.release(low);
     kernel.release(high);
@@ -187,7 +187,7 @@ impl Trio {
     }
 
     /// With a variable in place of the third handle.
-    fn naming(self, alloc: Global, variable: u32) -> Result<Trio, Fail> {
+    fn naming(self, alloc: Global, variable: u32) -> Result<Trio, Refusal> {
         let Trio {
             mut kernel,
             a,
@@ -204,15 +204,15 @@ impl Trio {
         })
     }
 
-    /// With a function of the first three variables in place of the third handle.
-    fn making(self, alloc: Global, list: u64) -> Result<Trio, Fail> {
+    /// With a function of the last variables, so many of them, in place of the third handle.
+    fn making(self, alloc: Global, list: u64, variables: u32) -> Result<Trio, Refusal> {
         let Trio {
             mut kernel,
             a,
             b,
             c,
         } = self;
-        let made = function(&mut kernel, alloc, list, 3)?;
+        let made = function(&mut kernel, alloc, list, variables)?;
         kernel.release(c);
         Ok(Trio {
             kernel,
@@ -240,9 +240,9 @@ impl Trio {
 
     /// The lists of truth values of the handles.
     fn lists(&self, rt: &impl Abort) -> (u64, u64, u64) {
-        let a = list_of(rt, &self.kernel, &self.a);
-        let b = list_of(rt, &self.kernel, &self.b);
-        let c = list_of(rt, &self.kernel, &self.c);
+        let a = list_of(rt, &self.kernel, &self.a, 64);
+        let b = list_of(rt, &self.kernel, &self.b, 64);
+        let c = list_of(rt, &self.kernel, &self.c, 64);
         (a, b, c)
     }
 
@@ -259,21 +259,21 @@ impl Trio {
     }
 }
 
-/// The three values of a number of three digits to base 256, of three variables each.
+/// Makes a function of the last three variables beside the one that the first handle has, and compares what each
+/// operation makes of both with what it makes of their lists.
 fn expect_all(rt: &impl Abort, alloc: Global, trio: Trio, f: u64, g: u64) -> Result<Trio, Fail> {
-    // The third function goes with the other two.
-    let h = (f ^ (g << 1) ^ (g >> 3)) & 0xff;
-    let mut trio = trio.making(alloc, f)?.turned().making(alloc, g)?.turned();
-    // Now the handles are the old first one, f and g.
-    trio = trio.turned().making(alloc, h)?;
-    let (a, b, _) = trio.lists(rt);
-    assert!(rt; (a & 0xff, b & 0xff) == (f, g));
+    let mut trio = trio.turned().turned().making(alloc, g, 3)?.turned();
     for asked in ALL {
-        let (made, refusal) = trio.making(alloc, h)?.asking(alloc, asked);
+        // The third function goes with the other two; the results are in its place before.
+        let h = (f ^ (g << 1) ^ (g >> 3)) & 0xff;
+        if asked == Asked::Ite {
+            trio = trio.making(alloc, h, 3)?;
+        }
+        let (made, refusal) = trio.asking(alloc, asked);
         assert!(rt; refusal == None);
         trio = made;
-        let list = list_of(rt, &trio.kernel, &trio.c);
-        assert!(rt; list & 0xff == asked.of_lists(f, g, h) & 0xff, "{asked:?} {f} {g} {h}");
+        let list = list_of(rt, &trio.kernel, &trio.c, 8);
+        assert!(rt; list == asked.of_lists(f, g, h) & 0xff, "{asked:?} {f} {g} {h}");
     }
     let (made, answer) = trio.implied(alloc);
     assert!(rt; answer == Some(f & (g ^ 0xff) == 0));
@@ -285,6 +285,7 @@ fn all_functions_of_three_variables_are_combined(rt: HostRuntime) -> Result<(), 
     let alloc = rt.alloc();
     let mut trio = Trio::new(alloc, VARIABLES, 4_096)?;
     for f in 0u64..256 {
+        trio = trio.making(alloc, f, 3)?.turned().turned();
         for g in 0u64..256 {
             trio = expect_all(&rt, alloc, trio, f, g)?;
         }
@@ -303,74 +304,94 @@ fn next(seed: u32) -> u32 {
     second ^ (second << 5)
 }
 
-/// What a number chooses; the operations that make large diagrams come oftener.
+/// What a number chooses, or nothing.
 fn chosen(seed: u32) -> Option<Asked> {
     match (seed >> 8) & 15 {
-        0 => Some(Asked::And),
-        1 => Some(Asked::Or),
-        2..=5 => Some(Asked::Xor),
-        6 => Some(Asked::Not),
-        7..=11 => Some(Asked::Ite),
+        0..=1 => Some(Asked::And),
+        2..=3 => Some(Asked::Or),
+        4..=6 => Some(Asked::Xor),
+        7 => Some(Asked::Not),
+        8..=11 => Some(Asked::Ite),
         _ => None,
     }
 }
 
-/// One call of a sequence, then the handles in turn. What is refused is answered.
-fn step(
-    rt: &impl Abort,
-    alloc: Global,
-    trio: Trio,
-    seed: u32,
-) -> Result<(Trio, Option<Asked>), Fail> {
+/// One call of a sequence, then the handles in turn.
+fn step(rt: &impl Abort, alloc: Global, trio: Trio, seed: u32) -> Result<Trio, Fail> {
     let (a, b, c) = trio.lists(rt);
-    let (after, expected, refused) = match chosen(seed) {
+    let (after, list) = match chosen(seed) {
         Some(asked) => {
             let (after, refusal) = trio.asking(alloc, asked);
-            match refusal {
-                None => (after, asked.of_lists(a, b, c), None),
-                Some(_) => (after, c, Some(asked)),
-            }
+            assert!(rt; refusal == None);
+            (after, asked.of_lists(a, b, c))
         }
         None => {
             let variable = (seed >> 16) % VARIABLES;
-            let list = LISTS[variable as usize];
-            (trio.naming(alloc, variable)?, list, None)
+            (trio.naming(alloc, variable)?, LISTS[variable as usize])
         }
     };
-    assert!(rt; after.lists(rt) == (a, b, expected));
-    Ok((after.turned(), refused))
-}
-
-/// Walks on at random, and answers how often an operation was refused.
-fn count_refusals(
-    rt: &impl Abort,
-    alloc: Global,
-    budget: u32,
-    steps: u32,
-    counted: Asked,
-) -> Result<u32, Fail> {
-    let mut trio = Trio::new(alloc, VARIABLES, budget)?;
-    let mut seed = budget.saturating_add(77);
-    let mut count = 0u32;
-    for _ in 0..steps {
-        seed = next(seed);
-        let (after, refused) = step(rt, alloc, trio, seed)?;
-        trio = after;
-        if refused == Some(counted) {
-            count = count.saturating_add(1);
-        }
-        if seed % 64 == 0 {
-            trio = trio.cleared(seed % 128 == 0);
-        }
-    }
-    Ok(count)
+    assert!(rt; after.lists(rt) == (a, b, list));
+    Ok(after.turned())
 }
 
 #[test]
 fn random_sequences_of_calls_give_the_lists_of_truth_values(rt: HostRuntime) -> Result<(), Fail> {
-    let refused = count_refusals(&rt, rt.alloc(), 4_096, 20_000, Asked::Ite)?;
-    assert!(rt; refused == 0);
+    let alloc = rt.alloc();
+    let mut trio = Trio::new(alloc, VARIABLES, 256)?;
+    let mut seed = 1u32;
+    for _ in 0u32..4_000 {
+        seed = next(seed);
+        trio = step(&rt, alloc, trio, seed)?;
+        if seed % 64 == 0 {
+            trio = trio.cleared(seed % 128 == 0);
+        }
+    }
     Ok(())
+}
+
+/// Three random functions of the last variables, so many of them.
+fn filled(alloc: Global, trio: Trio, variables: u32, seed: u32) -> Result<Trio, Refusal> {
+    let mut trio = trio;
+    let mut seed = seed;
+    for _ in 0u32..3 {
+        let half = next(seed);
+        seed = next(half);
+        let list = (half as u64) << 32 | seed as u64;
+        trio = trio.making(alloc, list, variables)?.turned();
+    }
+    Ok(trio)
+}
+
+/// Whether an operation is refused beside three random functions; the values of all handles are as they were then.
+fn is_refused(
+    rt: &impl Abort,
+    alloc: Global,
+    budget: u32,
+    asked: Asked,
+    seed: u32,
+) -> Result<bool, Fail> {
+    let variables = match budget {
+        0..=25 => 4,
+        26..=41 => 5,
+        _ => 6,
+    };
+    let trio = Trio::new(alloc, VARIABLES, budget)?;
+    let Ok(trio) = filled(alloc, trio, variables, seed) else {
+        return Ok(false);
+    };
+    let (a, b, c) = trio.lists(rt);
+    let (after, refusal) = trio.asking(alloc, asked);
+    match refusal {
+        None => {
+            assert!(rt; after.lists(rt) == (a, b, asked.of_lists(a, b, c)));
+            Ok(false)
+        }
+        Some(_) => {
+            assert!(rt; after.lists(rt) == (a, b, c));
+            assert!(rt; after.kernel.nodes() == budget);
+            Ok(true)
+        }
+    }
 }
 
 #[test]
@@ -378,10 +399,14 @@ fn each_operation_is_refused_where_the_table_is_full(rt: HostRuntime) -> Result<
     for asked in ALL {
         let mut count = 0u32;
         for budget in 16u32..65 {
-            let more = count_refusals(&rt, rt.alloc(), budget, 300, asked)?;
-            count = count.saturating_add(more);
+            for number in 0u32..2 {
+                let seed = budget.saturating_add(number.saturating_mul(1000));
+                if is_refused(&rt, rt.alloc(), budget, asked, seed)? {
+                    count = count.saturating_add(1);
+                }
+            }
         }
-        assert!(rt; count > 0, "{asked:?}");
+        assert!(rt; count > 10, "{asked:?} {count}");
     }
     Ok(())
 }
@@ -390,7 +415,7 @@ fn each_operation_is_refused_where_the_table_is_full(rt: HostRuntime) -> Result<
 fn operations_go_down_4096_levels(rt: HostRuntime) -> Result<(), Fail> {
     let alloc = rt.alloc();
     let mut trio = Trio::new(alloc, 4096, 65_536)?;
-    trio = trio.naming(alloc, 4094)?.turned().turned();
+    trio = trio.naming(alloc, 4094)?.turned();
     for from_end in 0u32..4094 {
         // The conjunction so far is the second handle.
         trio = trio.naming(alloc, 4093 - from_end)?.turned();
@@ -398,9 +423,8 @@ fn operations_go_down_4096_levels(rt: HostRuntime) -> Result<(), Fail> {
         assert!(rt; refusal == None);
         trio = after.turned();
     }
-    // Now it is the first one, over all variables but the last, which is the second.
-    trio = trio.turned().naming(alloc, 4095)?.turned().turned().turned();
-    trio = trio.cleared(true);
+    // In turn it is the first one, over all variables but the last, which is the second.
+    trio = trio.naming(alloc, 4095)?.turned().cleared(true);
     for asked in ALL {
         let (after, refusal) = trio.asking(alloc, asked);
         assert!(rt; refusal == None);

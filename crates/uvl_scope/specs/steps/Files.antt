@@ -1,7 +1,6 @@
 -- What is answered for a file of a set.
-use Rattle.std.specs.Prelude.{◌≡◌, ⊤, Option, Some, None}
+use Rattle.std.specs.Prelude.{◌≡◌, ⊤, Option, Some}
 use Rattle.std.specs.Option.{option_map}
-use Rattle.uvl_base.specs.declared.fault.ModelFault.{ModelFault}
 use Rattle.uvl_imports.specs.declared.file_set.Loaded.{Loaded}
 use Rattle.uvl_scope.specs.declared.fault.FileFault.{FileFault}
 use Rattle.uvl_scope.specs.declared.fault.FileFault.TheVariants as fault

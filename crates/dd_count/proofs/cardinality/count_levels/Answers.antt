@@ -1,15 +1,16 @@
 -- One member after the other, from the last one up.
-use Rattle.std.proofs.Common.{◌≡◌, ℕ, ◌+◌, ◌-◌, ◌<◌, List, ◌++◌, length, take, drop, get_or, ap, sym, ◌∙◌, subst, arith, min}
+use Rattle.std.proofs.Common.{◌≡◌, ℕ, ◌*◌, ◌+◌, ◌-◌, ◌<◌, List, ◌++◌, length, take, drop, get_or, ap, sym, ◌∙◌, subst, arith, min}
 use Rattle.std.proofs.lemmas.List.{take_at}
 use Rattle.dd_store.specs.declared.row.Var.{Var}
 use Rattle.dd_store.specs.Order.{IsIn}
 use Rattle.dd_store.specs.Handles.{HoldsLess}
+use Rattle.dd_store.specs.Table.{node_count}
 use Rattle.dd_count.specs.Cardinality.{cardinality}
 use Rattle.dd_count.specs.Levels.{variable_on, variables_on}
 use Rattle.dd_count.specs.States.{AreBelow, HoldsStates, GoesOn}
 use Rattle.dd_count.proofs.CountedLemmas.{falling-few}
 use Rattle.dd_count.proofs.StatesLemmas.{released-keeps, released-handles, cause-stays}
-use Rattle.dd_count.proofs.MembersLemmas.{AreCountedTo, counted-to-none, counted-to-all, counted-gains, member-there, member-above, member-cause, member-holds, member-counted, member-counted-short}
+use Rattle.dd_count.proofs.MembersLemmas.{nodes-refused, nodes-counted, no-fewer, AreCountedTo, counted-to-none, counted-to-all, counted-gains, member-there, member-above, member-cause, member-holds, member-counted, member-counted-short}
 use Rattle.dd_count.proofs.cardinality.count_levels.Goals as goal
 
 one-less : (left : ℕ) → 0 < left → left - 1 + 1 ≡ left
@@ -25,7 +26,7 @@ last_states-requires c =
 pub loop-left-init : goal.loop-left-init
 loop-left-init c =
     counted-to-none c.args.kernel.now c.last_states.new.kernel c.args.levels.now c.args.low c.args.high c.min-last.result c.in_ok-states.states.items
-    c.in_ok-states.ensures.held c.in_ok-states.ensures.states c.in_ok-states.ensures.number (c.min-last.ensures ∙ ap (min (length c.args.levels.now)) c.last_state.ensures)
+    c.in_ok-states.ensures.held c.in_ok-states.ensures.states c.in_ok-states.ensures.number (c.min-last.ensures ∙ ap (min (length c.args.levels.now)) c.last_state.ensures) c.last_states.ensures.nodes
 
 pub count_member-requires-clause-variable : goal.count_member-requires-clause-variable
 count_member-requires-clause-variable c =
@@ -98,7 +99,8 @@ loop-left-preserved c =
     c.count_member.new.kernel (variable_on c.order.result.now (get_or c.args.levels.now (c.loop-left.left - 1) 0)).0 c.deref_mut.result.now c.count_member.new.states
     (ap (λ (vs : List Var). (variable_on vs (get_or c.args.levels.now (c.loop-left.left - 1) 0)).0) (c.order.ensures.order ∙ c.loop-left.invariant.held.keeps.order)) c.deref_mut.ensures.value
     c.in_default.ensures.forked c.count_member.auto.states c.count_member.ensures.goes_on
-    (let few = c.if-len-left.false in let is = c.len.ensures in let size = c.count_member.auto.states in let len = c.deref_mut.ensures.len in omega arith))
+    (let few = c.if-len-left.false in let is = c.len.ensures in let size = c.count_member.auto.states in let len = c.deref_mut.ensures.len in omega arith)
+    c.count_member.ensures.nodes)
 
 -- the list behind the call
 list-then : (c : goal.After-release_last) → behind c.loop-left.states.len c.count_member.new.states c.loop-left.states.items ≡ c.count_member.new.states
@@ -117,6 +119,7 @@ loop-left-preserved-then-len-left c =
     (subst (λ (hs : List ℕ). GoesOn c.count_member.new.kernel hs c.release_last.new.kernel c.release_last.new.states.items) (list-then c) c.release_last.ensures.goes_on)
     c.release_last.ensures.grows
     (let many = c.if-len-left.true in let is = c.len.ensures in let size = c.count_member.auto.states in let len = c.deref_mut.ensures.len in omega arith)
+    c.count_member.ensures.nodes
 
 pub returns-clause-keeps : goal.returns-clause-keeps
 returns-clause-keeps c = c.loop-left.invariant.held.keeps
@@ -131,3 +134,18 @@ pub returns-clause-value : goal.returns-clause-value
 returns-clause-value c =
     (counted-to-all c.args.kernel.now c.loop-left.kernel c.args.levels.now c.args.low c.args.high c.loop-left.left c.loop-left.states.items c.pop.new.self.items c.in-Some.state
     c.loop-left-test.false c.in-Some.ensures.items c.loop-left.invariant).1
+
+pub returns-in_err-states-clause-nodes : goal.returns-in_err-states-clause-nodes
+returns-in_err-states-clause-nodes c =
+    no-fewer (node_count c.last_states.new.kernel) (node_count c.args.kernel.now) (length c.args.levels.now * (c.args.high + 1)) c.last_states.ensures.nodes
+
+pub returns-in-Err-clause-nodes : goal.returns-in-Err-clause-nodes
+returns-in-Err-clause-nodes c =
+    nodes-refused c.args.kernel.now c.loop-left.kernel c.args.levels.now c.args.low c.args.high c.loop-left.left (c.loop-left.left - 1) c.loop-left.states.items
+    c.order-order.ensures.sound c.requires.falling c.requires.within c.loop-left.invariant (one-less c.loop-left.left c.loop-left-test.true)
+    (node_count c.release_all.new.self)
+    (let few = c.count_member.ensures.nodes in let none = c.release_all.ensures.grows.count in let same = ap length c.deref_mut.ensures.value in omega arith)
+
+pub returns-clause-nodes : goal.returns-clause-nodes
+returns-clause-nodes c =
+    nodes-counted c.args.kernel.now c.loop-left.kernel c.args.levels.now c.args.low c.args.high c.loop-left.left c.loop-left.states.items c.loop-left.invariant

@@ -25,7 +25,7 @@ pub loop-before-preserved : goal.loop-before-preserved
 loop-before-preserved c =
     forked-more c.args.kernel.now c.loop-before.kernel c.fork_state.new.kernel c.args.member.0 c.args.states.now c.loop-before.states c.fork_state.new.states c.loop-before.before
     (let test = c.loop-before-test.true in omega arith) c.loop-before.invariant c.in_ok-fork_state.ensures.value c.fork_state.ensures.others c.fork_state.auto.states
-    c.fork_state.ensures.held c.fork_state.ensures.keeps c.fork_state.ensures.goes_on
+    c.fork_state.ensures.held c.fork_state.ensures.keeps c.fork_state.ensures.goes_on c.fork_state.ensures.nodes
 
 pub returns-clause-forked : goal.returns-clause-forked
 returns-clause-forked c =
@@ -38,3 +38,10 @@ returns-in_err-fork_state-clause-cause c =
     rw (p.1, p.2)
     (forked-cause c.args.kernel.now c.loop-before.kernel c.fork_state.new.kernel c.args.member.0 c.args.states.now c.loop-before.states c.loop-before.before
     (let test = c.loop-before-test.true in omega arith) c.loop-before.invariant c.in_err-fork_state.field-0.0 c.in_err-fork_state.ensures.cause)
+
+pub returns-in_err-fork_state-clause-nodes : goal.returns-in_err-fork_state-clause-nodes
+returns-in_err-fork_state-clause-nodes c =
+    let so_far = c.loop-before.invariant.nodes in let one = c.fork_state.ensures.nodes in let test = c.loop-before-test.true in omega arith
+
+pub returns-clause-nodes : goal.returns-clause-nodes
+returns-clause-nodes c = let all = c.loop-before.invariant.nodes in let end = c.loop-before.auto.before-end in let some = c.requires.some in omega arith

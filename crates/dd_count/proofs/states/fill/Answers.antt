@@ -14,6 +14,7 @@ loop-before-init c =
       held = subst (λ (hs : List ℕ). HoldsStates c.args.kernel.now c.args.kernel.now hs) (sym c.requires.empty) (holds-none c.args.kernel.now c.order-order.ensures.sound);
       states = λ i inside. absurd (omega arith);
       number = none;
+      nodes = omega arith;
     }
 
 pub loop-before-preserved : goal.loop-before-preserved
@@ -35,4 +36,5 @@ loop-before-preserved c =
       states = subst (λ (hs : List ℕ). AreStates u [] c.args.low c.args.high hs) (sym items)
           (states-push begun t u [] c.args.low c.args.high states h before.held keeps gain before.states value);
       number = ap length items ∙ length-push states h ∙ ap (λ (n : ℕ). n + 1) before.number;
+      nodes = let none = c.constant.ensures.grows.count in let so_far = before.nodes in omega arith;
     }

@@ -89,3 +89,9 @@ returns-clause-goes_on c =
     let states = c.args.states.now in
     anew-goes-on c.args.kernel.now c.node.new.self c.release.new.self states (set states c.args.before c.replace-unforked.new.dest) c.args.before c.replace-unforked.result c.in_ok-forked.forked
     (here (length states) c.args.before c.requires.within) (anew c) (is_set c) c.node.ensures.grows.keeps c.in_ok-forked.ensures.gained c.release.ensures.lost c.release.ensures.grows
+
+pub returns-in_err-forked-clause-nodes : goal.returns-in_err-forked-clause-nodes
+returns-in_err-forked-clause-nodes c = c.node.ensures.grows.count
+
+pub returns-clause-nodes : goal.returns-clause-nodes
+returns-clause-nodes c = let one = c.node.ensures.grows.count in let two = c.release.ensures.grows.count in omega arith

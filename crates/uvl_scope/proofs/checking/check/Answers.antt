@@ -1,7 +1,5 @@
 -- The scopes of files without fault are of their trees.
-use Rattle.std.proofs.Common.{◌≡◌, List, sym, ap, ◌∙◌, subst}
-use Rattle.uvl_imports.specs.declared.file_set.Loaded.{Loaded}
-use Rattle.uvl_scope.specs.declared.scope.Scope.{Scope}
+use Rattle.std.proofs.Common.{sym, ap, ◌∙◌, subst}
 use Rattle.uvl_scope.specs.Faults.{HasNoFault, scopes_of}
 use Rattle.uvl_scope.specs.Trees.{AreScopesOf}
 use Rattle.uvl_scope.proofs.ScopesFit.{scopes_fit}

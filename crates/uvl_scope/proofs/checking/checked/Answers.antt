@@ -1,5 +1,4 @@
 -- The lines of the file, and then its rules.
-use Rattle.std.proofs.Common.{Option}
 use Rattle.uvl_scope.specs.steps.Walk.{brought_of}
 use Rattle.uvl_scope.proofs.FileWalked.{begin, brought_met, stop_in_lines, stop_in_rules, no_fault, scope_is}
 use Rattle.uvl_scope.proofs.Walked.{err_is}

@@ -1,7 +1,6 @@
 -- One more file, the first file with a fault, and the last file.
-use Rattle.std.proofs.Common.{◌≡◌, [], subst, sym}
 use Rattle.uvl_scope.specs.Faults.{IsCauseOf}
-use Rattle.uvl_scope.proofs.FilesWalked.{FilesGoOn, files_begin, files_more, stop_at, cause_is, files_all}
+use Rattle.uvl_scope.proofs.FilesWalked.{files_more, stop_at, cause_is, files_all}
 use Rattle.uvl_scope.proofs.checking.scopes_of.Goals as goal
 
 pub loop-loaded-preserved : goal.loop-loaded-preserved

@@ -8,5 +8,5 @@ use Rattle.uvl_scope.proofs.keys.+keys.Given as goal
 abbrev pub invariant-repeated_among-loop-value : goal.invariant-repeated_among-loop-value
 invariant-repeated_among-loop-value l = first_of (map repeated_in (drop l.value-index l.values)) ≡ first_of (map repeated_in l.values)
 
-abbrev pub invariant-repeated_key-loop-attribute : goal.invariant-repeated_key-loop-attribute
-invariant-repeated_key-loop-attribute l = KeysGoOn l.attributes (take l.attribute-index l.attributes) (drop l.attribute-index l.attributes) l.keys
+abbrev pub invariant-repeated_key-loop-number : goal.invariant-repeated_key-loop-number
+invariant-repeated_key-loop-number l = KeysGoOn l.attributes (take l.number l.attributes) (drop l.number l.attributes) l.index

@@ -1,5 +1,5 @@
 -- A group or a member speaks of numbers, or those behind it are left.
-use Rattle.std.proofs.Common.{◌≡◌, ℕ, ◌+◌, Bool, true, false, List, ◌∷◌, ◌++◌, drop, map, sym, ap, ◌∙◌}
+use Rattle.std.proofs.Common.{◌+◌, Bool, List, drop, map, sym, ap, ◌∙◌}
 use Rattle.std.specs.List.{flat_map, list_any}
 use Rattle.uvl_ast.specs.declared.expression.Expr.{Expr}
 use Rattle.uvl_ast.specs.declared.feature.Feature.{Feature}

@@ -1,8 +1,6 @@
 -- What the right operand has stands in front of what was found.
 use Rattle.std.proofs.Common.{refl}
 use Rattle.std.specs.Option.{option_or}
-use Rattle.uvl_ast.specs.declared.expression.Expr.{Expr}
-use Rattle.uvl_base.specs.declared.place.Place.{Place}
 use Rattle.uvl_scope.specs.RuleFaults.{unknown_place}
 use Rattle.uvl_scope.specs.Rules.{references_in}
 use Rattle.uvl_scope.proofs.Unknown.{unknown_step}

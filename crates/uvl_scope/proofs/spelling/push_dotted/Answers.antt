@@ -1,5 +1,5 @@
 -- The first name, and then the others behind dots.
-use Rattle.std.proofs.Common.{◌≡◌, ℕ, List, ◌∷◌, ◌++◌, sym, ap, ◌∙◌, string_bytes}
+use Rattle.std.proofs.Common.{ℕ, List, ◌++◌, sym, ap, ◌∙◌, string_bytes}
 use Rattle.std.specs.Prelude.{chars}
 use Rattle.std.proofs.lemmas.List.{append_assoc}
 use Rattle.uvl_placing.specs.Names.{dotted, behind_dots}

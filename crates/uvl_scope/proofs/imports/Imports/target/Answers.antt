@@ -1,5 +1,5 @@
 -- The target at the place of the qualifier.
-use Rattle.std.proofs.Common.{◌≡◌, ℕ, Option, Some, None, slice_get, sym, ap, ◌∙◌}
+use Rattle.std.proofs.Common.{◌≡◌, Some, None, slice_get, sym, ap, ◌∙◌}
 use Rattle.std.specs.Prelude.{chars}
 use Rattle.std.specs.Option.{option_and_then}
 use Rattle.uvl_scope.proofs.Offering.{among_at}

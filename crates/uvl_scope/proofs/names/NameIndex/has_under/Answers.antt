@@ -1,5 +1,5 @@
 -- The name with the number is one, or the search goes on.
-use Rattle.std.proofs.Common.{◌≡◌, ℕ, List, Bool, ◌<◌, ◌≤◌, [], sym, ap, ◌∙◌, subst, map}
+use Rattle.std.proofs.Common.{ℕ, ◌<◌, ◌≤◌, sym, ap, ◌∙◌, subst, map}
 use Rattle.std.specs.Prelude.{chars}
 use Rattle.std.specs.List.{list_any}
 use Rattle.std.proofs.lemmas.List.{drop_all}

@@ -1,5 +1,5 @@
 -- The key with the number.
-use Rattle.std.proofs.Common.{◌≡◌, ℕ, List, sym, ap, ◌∙◌, slice_get, Some, subst}
+use Rattle.std.proofs.Common.{ℕ, List, sym, ap, ◌∙◌, slice_get, Some}
 use Rattle.std.specs.Prelude.{chars}
 use Rattle.uvl_scope.proofs.NameKeys.{name_at}
 use Rattle.uvl_scope.proofs.names.NameIndex.name.Goals as goal

@@ -1,9 +1,9 @@
 -- The rules of a feature, and then those below it.
-use Rattle.std.proofs.Common.{◌≡◌, ℕ, ◌+◌, List, ◌∷◌, ◌++◌, map, drop, sym, ap, ◌∙◌, subst}
+use Rattle.std.proofs.Common.{◌≡◌, ◌+◌, List, ◌++◌, map, drop, sym, ap, ◌∙◌, subst}
 use Rattle.std.specs.List.{flat_map}
 use Rattle.uvl_ast.specs.declared.expression.Expr.{Expr}
 use Rattle.uvl_ast.specs.declared.feature.Feature.{Feature, out-Feature}
-use Rattle.uvl_ast.specs.declared.feature.Group.{Group, out-Group}
+use Rattle.uvl_ast.specs.declared.feature.Group.{Group}
 use Rattle.uvl_ast.specs.Rules.{all_rules, all_rules_of_group}
 use Rattle.uvl_scope.specs.steps.Walk.{IsFound, AddsRules, fault_in_rules}
 use Rattle.uvl_scope.proofs.Dotting.{next_item, on_ok}

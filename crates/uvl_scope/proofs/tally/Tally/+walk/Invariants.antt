@@ -1,5 +1,5 @@
 -- In the middle of a list of groups and of a list of members.
-use Rattle.std.proofs.Common.{◌≡◌, ◌≤◌, drop}
+use Rattle.std.proofs.Common.{drop}
 use Rattle.uvl_scope.specs.steps.Offers.{placed_by}
 use Rattle.uvl_scope.specs.steps.Walk.{IsWithin, brought_of}
 use Rattle.uvl_scope.proofs.Walked.{GoOn}

@@ -1,5 +1,5 @@
 -- What the reference places.
-use Rattle.std.proofs.Common.{◌≡◌, ℕ, List, ◌++◌, ◌∷◌, [], Option, Some, None, string_bytes, sym, ap, ◌∙◌, subst, OnOk}
+use Rattle.std.proofs.Common.{◌≡◌, ℕ, List, ◌++◌, ◌∷◌, [], Option, Some, sym, ap, ◌∙◌, subst, OnOk}
 use Rattle.std.specs.Prelude.{chars, option_copied}
 use Rattle.uvl_ast.specs.declared.feature.Feature.{out-Feature}
 use Rattle.uvl_placing.specs.Names.{dotted, front_of}

@@ -1,0 +1,6 @@
+pub mod ClimbLemmas
+pub mod MeaningLemmas
+pub mod PartLemmas
+pub mod RunLemmas
+pub mod SpineLemmas
+pub mod ValueLemmas

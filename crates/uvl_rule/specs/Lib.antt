@@ -1,0 +1,3 @@
+pub mod Connectives
+pub mod Run
+pub mod Spine
