@@ -1,6 +1,6 @@
-"""The faults with a name of their own, and what is answered for a whole text."""
+"""The faults with a name of their own, and the first fault of a text's tokens."""
 from .grammar import first_dead
-from .lexing import CLOSES, LAYOUT_TOKENS, Fault, tokens_of
+from .lexing import CLOSES, LAYOUT_TOKENS, Fault
 
 NAMES = {
     4: "BadCharacter", 5: "BadIndent", 6: "Unclosed", 7: "NumberTooWide", 8: "Syntax", 9: "TypedFeature",
@@ -11,7 +11,7 @@ SECTIONS = frozenset(["include", "imports", "features", "constraints"])
 RULE_FRONTS = LAYOUT_TOKENS | {",", "[", "{", "constraint"}
 CONNECTIVES = frozenset(["&", "|", "=>", "<=>"])
 OPERATORS = CONNECTIVES | frozenset(["!", "==", "!=", "<", "<=", ">", ">=", "+", "-", "*"])
-MOST_NODES, MOST_NESTING, MOST_DEPTH, MOST_FEATURES = 8192, 128, 64, 2048
+MOST_NODES, MOST_NESTING, MOST_DEPTH = 8192, 128, 64
 
 
 class Position:
@@ -126,33 +126,3 @@ def check_tokens(tokens):
         if met:
             raise Fault(min(met), tokens[position.index].place)
         position.step()
-
-
-def is_built(tokens):
-    """Whether a model is made of the file that the tokens are: only a tree of mandatory and optional groups is."""
-    position, names = Position(tokens), []
-    for token in tokens:
-        section, kind = position.section_at(), token.kind
-        if section in ("imports", "constraints") and position.indentations:
-            return False
-        if section == "features" and position.around and kind != "}":
-            return False
-        if section == "features" and not position.around and kind in (".", "[", "alternative", "or"):
-            return False
-        if section == "features" and kind == "name":
-            names.append(token.spelling.strip('"'))
-        position.step()
-    return 0 < len(names) <= MOST_FEATURES and len(set(names)) == len(names)
-
-
-def answer(text):
-    """What the program writes for a text as its model `random.uvl`, and for the script of the one line `void`."""
-    try:
-        tokens = tokens_of(text)
-        check_tokens(tokens)
-        if not is_built(tokens):
-            raise Fault(99, (1, 1))
-    except Fault as fault:
-        line, column = fault.place
-        return f"fault random.uvl:{line}:{column} E{fault.number:02} {NAMES[fault.number]}\n"
-    return "no\n.\n"
