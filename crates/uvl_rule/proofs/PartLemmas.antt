@@ -55,7 +55,7 @@ module _ (vars : List Var) where
   told-node (Rule-F.Compare how l r) = whole (Rule-F.Compare how l r) ∙ sym (function-of (Rule-F.Compare how l r))
 
   -- the function of a rule's parts is the rule's
-  told : (rule : Rule) → Told rule
+  pub told : (rule : Rule) → Told rule
   told = ind-Rule Told (λ x y is. subst (λ (z : Rule-F Rule). Told (roll-Rule z)) is (told-node y))
 
   -- where functions move from what is held to what stands beside a rule
