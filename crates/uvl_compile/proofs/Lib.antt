@@ -5,3 +5,4 @@ pub mod HandleLemmas
 pub mod TreeLemmas
 pub mod Marked
 pub mod StepLemmas
+pub mod SameLemmas

@@ -1,5 +1,5 @@
 -- One rule after another, as the groups list them.
-use Rattle.std.proofs.Common.{◌≡◌, ◌⊎◌, ℕ, zero, suc, ◌+◌, ◌<◌, Bool, true, false, ◌&&◌, Result, Ok, Err, IfOk, IfErr, get_or, List, [], ◌∷◌, ◌++◌, map, take, length, Option, Some, slice_get, refl, sym, ap, ◌∙◌, subst, inl, inr, arith, append_assoc, append-nil}
+use Rattle.std.proofs.Common.{◌≡◌, ℕ, zero, suc, ◌+◌, ◌<◌, Bool, true, ◌&&◌, Result, Ok, Err, IfOk, IfErr, get_or, List, [], ◌∷◌, ◌++◌, map, take, length, Some, slice_get, refl, sym, ap, ◌∙◌, subst, inl, inr, arith, append_assoc, append-nil}
 use Rattle.std.specs.List.{list_all}
 use Rattle.std.proofs.lemmas.Bool.{false≢true}
 use Rattle.std.proofs.lemmas.List.{take_more}
@@ -176,8 +176,7 @@ module _ (t u : Table) (n m : ℕ) (vars : List Var) (rule : Rule) (keeps : Keep
   meet-covered held group (inr never) = absurd never
   meet-covered held group (inl same) =
       let (own, there, has) = own-group vars rule none in
-      let larger = own ++ value_at t n ∷ both (value_at t n) (rule_function vars rule) ∷ [] in
-      (
+      let larger = own ++ value_at t n ∷ both (value_at t n) (rule_function vars rule) ∷ [] in (
         larger,
         in-step (value_at t n) (both (value_at t n) (rule_function vars rule)) (rule_groups vars rule) own there,
         first-in held own has,

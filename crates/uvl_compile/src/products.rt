@@ -40,11 +40,14 @@ pub fn compile(
 {
     models_give_products();
     model.rules();
-    if let Some(products) = fast(kernel, alloc, model, map)? {
-        return Ok(products);
+    let made = fast(kernel, alloc, model, map)?;
+    match made {
+        Some(products) => Ok(products),
+        None => {
+            kernel.collect();
+            listed(kernel, alloc, model, map)
+        }
     }
-    kernel.collect();
-    listed(kernel, alloc, model, map)
 }
 
 /// The same by one of the plans; none where each of them meets the budget.
@@ -64,9 +67,12 @@ fn fast(
 {
     kernel.nodes();
     let first = near(alloc, model)?;
-    if let Some(products) = by_plan(kernel, alloc, model, map, &first)? {
-        return Ok(Some(products));
+    let made = by_plan(kernel, alloc, model, map, &first)?;
+    match made {
+        Some(products) => Ok(Some(products)),
+        None => {
+            let second = upward(alloc, model)?;
+            by_plan(kernel, alloc, model, map, &second)
+        }
     }
-    let second = upward(alloc, model)?;
-    by_plan(kernel, alloc, model, map, &second)
 }

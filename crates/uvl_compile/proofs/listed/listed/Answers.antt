@@ -1,5 +1,5 @@
 -- The tree, and then rule by rule.
-use Rattle.std.proofs.Common.{◌≡◌, take, List, sym, ap, ◌∙◌}
+use Rattle.std.proofs.Common.{take, List, sym, ap, ◌∙◌}
 use Rattle.std.proofs.lemmas.Result.{err_from_is_err_and}
 use Rattle.dd_store.specs.Size.{Function}
 use Rattle.uvl_model.specs.declared.rule.Rule.{Rule}

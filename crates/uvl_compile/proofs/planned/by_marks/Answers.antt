@@ -1,5 +1,5 @@
 -- All conditions are met.
-use Rattle.std.proofs.Common.{◌≡◌, length, sym, ◌∙◌}
+use Rattle.std.proofs.Common.{sym, ◌∙◌}
 use Rattle.uvl_compile.proofs.Marked.{all-met}
 use Rattle.uvl_compile.proofs.planned.by_marks.Goals as goal
 

@@ -1,5 +1,5 @@
 -- The root and the marked conditions.
-use Rattle.std.proofs.Common.{◌≡◌, length}
+use Rattle.std.proofs.Common.{◌≡◌}
 use Rattle.dd_store.specs.Changes.{Keeps}
 use Rattle.dd_store.specs.Exhausted.{value_at}
 use Rattle.dd_store.specs.Handles.{GainsHandle}
