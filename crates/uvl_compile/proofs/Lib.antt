@@ -3,3 +3,6 @@ pub mod RowFunctions
 pub mod Trades
 pub mod HandleLemmas
 pub mod TreeLemmas
+pub mod Marked
+pub mod StepLemmas
+pub mod SameLemmas

@@ -1,5 +1,5 @@
 -- The conditions of a model on the features beside the root, and what a diagram says that has met some of them.
-use Rattle.std.specs.Prelude.{Bool, true, ◌&&◌, List, [], ◌∷◌, ◌++◌, map, if◌then◌else◌}
+use Rattle.std.specs.Prelude.{ℕ, Bool, true, ◌&&◌, List, [], ◌∷◌, ◌++◌, map, slice_index_or, if◌then◌else◌}
 use Rattle.dd_store.specs.declared.row.Var.{Var}
 use Rattle.dd_store.specs.Size.{Function}
 use Rattle.uvl_model.specs.Rows.{Rows}
@@ -8,6 +8,10 @@ use Rattle.uvl_functions.specs.Functions.{group_function, rule_function, root_fu
 -- what each group says, and behind them what each rule says
 abbrev pub conditions : List Var → Rows → List Function
 conditions vars rows = map (group_function vars) rows.groups ++ map (rule_function vars) rows.rules
+
+-- the condition with a number
+abbrev pub condition_at : List Var → Rows → ℕ → Function
+condition_at vars rows number = slice_index_or (conditions vars rows) number (λ a. true)
 
 -- the marked ones of some functions are true
 abbrev pub marked_hold : List Function → List Bool → Function
