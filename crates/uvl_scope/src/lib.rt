@@ -1,6 +1,7 @@
 //! What is wrong in a set of files, and which names are in scope in each of them.
 #![tactic(auto)]
 
+mod checking;
 mod fault;
 mod imports;
 mod keys;
@@ -14,6 +15,7 @@ mod spelling;
 mod tally;
 mod walk;
 
+pub use checking::check;
 pub use fault::ScopeFault;
 pub use law::each_set_has_one_answer;
 pub use limits::{MOST_NODES, MOST_RULES};
