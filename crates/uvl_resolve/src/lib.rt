@@ -17,3 +17,4 @@ mod walk;
 
 pub use fault::ResolveFault;
 pub use laws::flat_keeps_products;
+pub use resolving::resolve;
