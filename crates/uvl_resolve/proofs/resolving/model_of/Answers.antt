@@ -44,8 +44,7 @@ pub rows_of-requires : goal.rows_of-requires
 rows_of-requires c =
     let files = c.args.files.now in
     let m = main files c.args.scopes.now c.requires.whole c.requires.accepted c.requires.scopes c.requires.trees in
-    let same = picked_is files m.tree m.says in
-    (
+    let same = picked_is files m.tree m.says in (
       c.deref.ensures.value ∙ c.in_ok-qualifiers.ensures,
       (
         m.says ∙ ap (λ (t : Tree). Some t) (sym same),
