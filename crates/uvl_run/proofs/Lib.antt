@@ -3,6 +3,7 @@ pub mod Compiling
 pub mod Exactly
 pub mod InMemory
 pub mod LoadedOnce
+pub mod Loads
 pub mod Marking
 pub mod Nine
 pub mod Placed
