@@ -170,12 +170,6 @@ def has_number(rule):
     return any(node.kind not in BOOLEAN and node.kind != "reference" for node, _ in nodes_of(rule))
 
 
-def is_plain_tree(model):
-    """Whether a model is a tree of mandatory and optional groups without a rule."""
-    groups = [group for tree in trees_in(model.tree) for group in tree.groups]
-    return model.rule_count == 0 and all(len(it.trees) == it.high and it.low in (0, it.high) for it in groups)
-
-
 def resolve(files):
     """The main file of a loaded set, resolved. A FileFault says what is wrong."""
     resolved = {}

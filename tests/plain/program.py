@@ -9,9 +9,14 @@ PROGRAM = os.path.join(TOP, "crates", "uvl", "out", "uvl")
 STACK_BYTES = 1024 * 1024
 
 
-def limit_stack():
+def limit_stack(size=STACK_BYTES):
     """Gives the program little stack, as calls are no deeper than what nests in a model; for `preexec_fn`."""
-    resource.setrlimit(resource.RLIMIT_STACK, (STACK_BYTES, STACK_BYTES))
+    resource.setrlimit(resource.RLIMIT_STACK, (size, size))
+
+
+def limit_stack_for_files():
+    """Gives the program stack for files that import each other 16 deep, which takes 64 KiB for each."""
+    limit_stack(2 * STACK_BYTES)
 
 
 def build():
