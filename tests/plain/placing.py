@@ -6,30 +6,22 @@ comparison, the set is NotBuilt; and a reference in a number position isn't look
 from collections import namedtuple
 
 from .files import FRONT, FileFault, load
-from .syntax import BOOLEAN, all_rules, dotted, nodes_of
+from .syntax import BOOLEAN, all_rules, dotted, features_of, nodes_of
 
 MOST_FEATURES, MOST_DEPTH, MOST_RULES, MOST_NODES = 2048, 64, 65536, 4194304
 
 Tree = namedtuple("Tree", "name groups")  # a feature with what is below it
-Members = namedtuple("Members", "low high trees")  # a group with its bounds
+Members = namedtuple("Members", "low high members")  # a group with its bounds
 
 
 def under(qualifier, tree):
     """A tree with the qualifier and a dot in front of each name."""
-    groups = [Members(low, high, [under(qualifier, it) for it in trees]) for low, high, trees in tree.groups]
+    groups = [Members(low, high, [under(qualifier, it) for it in members]) for low, high, members in tree.groups]
     return Tree(f"{qualifier}.{tree.name}", groups)
 
 
-def trees_in(tree):
-    """A tree and all below it, in document order."""
-    yield tree
-    for group in tree.groups:
-        for member in group.trees:
-            yield from trees_in(member)
-
-
 def depth_of(tree):
-    return 1 + max((depth_of(it) for group in tree.groups for it in group.trees), default=0)
+    return 1 + max((depth_of(it) for group in tree.groups for it in group.members), default=0)
 
 
 def bounds_of(kind, members):
@@ -118,7 +110,7 @@ class Resolving(Placed):
         qualifier = dotted(feature.parts[:-1])
         placed = self.imported[qualifier]
         tree = under(qualifier, placed.tree)
-        names = [it.name for it in trees_in(tree)]
+        names = [it.name for it in features_of(tree)]
         self.raise_first(self.faults_of_names(feature, names))
         if self.is_too_much(placed.rule_count, placed.node_count):
             raise FileFault(self.path, 31, feature.place)

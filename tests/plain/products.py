@@ -3,9 +3,9 @@ import itertools
 
 from .faults import NAMES
 from .files import FileFault
-from .placing import model_of, trees_in
+from .placing import model_of
 from .script import WORD
-from .syntax import dotted
+from .syntax import dotted, features_of
 
 FAULTS = {
     1: "Absent", 2: "TooLong", 3: "NotUtf8", 13: "DuplicateFeature", 14: "DuplicateAttribute", 15: "UnknownFeature",
@@ -16,15 +16,15 @@ FAULTS = {
 
 def is_absent(tree, chosen):
     """Whether no feature of a tree is chosen."""
-    return all(it.name not in chosen for it in trees_in(tree))
+    return all(it.name not in chosen for it in features_of(tree))
 
 
 def fits(tree, chosen):
     """Whether a tree whose feature is chosen allows the choice below it."""
     for group in tree.groups:
-        if not group.low <= sum(1 for it in group.trees if it.name in chosen) <= group.high:
+        if not group.low <= sum(1 for it in group.members if it.name in chosen) <= group.high:
             return False
-        if not all(fits(it, chosen) if it.name in chosen else is_absent(it, chosen) for it in group.trees):
+        if not all(fits(it, chosen) if it.name in chosen else is_absent(it, chosen) for it in group.members):
             return False
     return True
 

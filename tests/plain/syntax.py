@@ -171,7 +171,7 @@ def file_of(tokens):
 
 
 def features_of(root):
-    """A feature and all below it in the text's order."""
+    """A feature of a file or of a placed tree, and all below it, in document order."""
     yield root
     for group in root.groups:
         for member in group.members:
