@@ -5,6 +5,18 @@ use Rattle.std.specs.Prelude.{ℕ}
 abbrev pub most_file_bytes : ℕ
 most_file_bytes = 8388608
 
+-- the most bytes of all files of a model
+abbrev pub most_set_bytes : ℕ
+most_set_bytes = 16777216
+
+-- the most files of a model
+abbrev pub most_files : ℕ
+most_files = 256
+
+-- how deep imports nest at most; the main file is at 0
+abbrev pub most_import_depth : ℕ
+most_import_depth = 16
+
 -- the most features of a model
 abbrev pub most_features : ℕ
 most_features = 2048
@@ -20,6 +32,14 @@ most_nesting = 128
 -- the most nodes of one rule: its literals, references, sums and operators
 abbrev pub most_rule_nodes : ℕ
 most_rule_nodes = 8192
+
+-- the most rules of a model
+abbrev pub most_rules : ℕ
+most_rules = 65536
+
+-- the most nodes of all rules of a model
+abbrev pub most_nodes : ℕ
+most_nodes = 4194304
 
 -- In how many right operands of `&`, `|`, `=>` and `<=>` a node of a rule stands at most: of one of each outside, and in
 -- each of `most_nesting` brackets and `!`.

@@ -14,8 +14,9 @@ pub use fault::{FaultKind, ModelFault};
 pub use fixed::{Fixed, NumberFault};
 pub use identifier::{begins_identifier, continues_identifier};
 pub use limits::{
-    MOST_DECIMALS, MOST_DEPTH, MOST_FEATURES, MOST_FILE_BYTES, MOST_LINE_BYTES, MOST_NESTING,
-    MOST_RULE_NODES, MOST_SCRIPT_BYTES, MOST_WHOLE_DIGITS,
+    MOST_DECIMALS, MOST_DEPTH, MOST_FEATURES, MOST_FILE_BYTES, MOST_FILES, MOST_IMPORT_DEPTH,
+    MOST_LINE_BYTES, MOST_NESTING, MOST_NODES, MOST_RULE_NODES, MOST_RULES, MOST_SCRIPT_BYTES,
+    MOST_SET_BYTES, MOST_WHOLE_DIGITS,
 };
 pub use name::{Name, NameFault, is_name};
 pub use place::Place;

@@ -3,6 +3,15 @@
 /// The most bytes of one file.
 pub const MOST_FILE_BYTES: usize = 8_388_608;
 
+/// The most bytes of all files of a model.
+pub const MOST_SET_BYTES: usize = 16_777_216;
+
+/// The most files of a model.
+pub const MOST_FILES: usize = 256;
+
+/// How deep imports nest at most. The main file is at 0.
+pub const MOST_IMPORT_DEPTH: usize = 16;
+
 /// The most features of a model.
 pub const MOST_FEATURES: usize = 2_048;
 
@@ -14,6 +23,12 @@ pub const MOST_NESTING: usize = 128;
 
 /// The most nodes of one rule: its literals, references, sums and operators.
 pub const MOST_RULE_NODES: usize = 8_192;
+
+/// The most rules of a model.
+pub const MOST_RULES: usize = 65_536;
+
+/// The most nodes of all rules of a model.
+pub const MOST_NODES: usize = 4_194_304;
 
 /// The most digits of a number in front of its point.
 pub const MOST_WHOLE_DIGITS: usize = 12;

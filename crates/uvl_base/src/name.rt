@@ -1,9 +1,11 @@
 //! The name of a feature, of an attribute or of a session.
-ghost use Rattle.std.specs.Prelude.{◌≡◌, ◌↔◌, IfOk, IsErrOf, IsTrue, IsFalse, chars, encode_utf8_all};
+ghost use Rattle.std.specs.Prelude.{◌≡◌, ◌↔◌, ◌++◌, OnOk, OnErr, IfOk, IsErrOf, IsTrue, IsFalse, chars, encode_utf8_all};
 ghost use Rattle.std.specs.List.{list_all};
-ghost use Rattle.uvl_base.specs.Name.{is_name, may_stand_in_name};
+ghost use Rattle.uvl_base.specs.Name.{is_name, may_stand_in_name, needs_quotes, quoted, written_name};
 
-use crate::text::Text;
+use crate::identifier::is_identifier;
+use crate::text::{OutOfMemory, Text};
+use crate::word::is_reserved;
 use std::alloc::{AllocError, Global};
 use std::default::MadeWith;
 use std::marker::Model;
@@ -74,6 +76,41 @@ impl Name {
         let text = self.text.text();
         if text.is_empty() { BLANK } else { text }
     }
+
+    /// Whether UVL writes the name in double quotes: exactly where its text is no identifier, or is
+    /// a reserved word.
+    pub fn needs_quotes(&self) -> bool
+        ensures { result ≡ needs_quotes self.now }
+    {
+        let text = self.text();
+        !is_identifier(text) || is_reserved(text)
+    }
+
+    /// Appends the name as UVL writes it, in double quotes where it needs them. Where memory is
+    /// wanting, nothing is appended.
+    pub fn print(&self, _alloc: Global, into: &mut Vec<u8>) -> Result<(), OutOfMemory>
+        ensures written { OnOk result (into.new.items ≡ into.old.items ++ encode_utf8_all (written_name self.now)) }
+        ensures unchanged { OnErr result (into.new.items ≡ into.old.items) }
+    {
+        let text = self.text();
+        if self.needs_quotes() {
+            print_quoted(text, into)
+        } else {
+            into.extend_from_slice(text.as_bytes())
+        }
+    }
+}
+
+/// Appends a text between double quotes, or nothing where memory is wanting.
+fn print_quoted(text: &str, into: &mut Vec<u8>) -> Result<(), OutOfMemory>
+    ensures written { OnOk result (into.new.items ≡ into.old.items ++ encode_utf8_all (quoted (chars text.now))) }
+    ensures unchanged { OnErr result (into.new.items ≡ into.old.items) }
+{
+    into.reserve(text.len() + 2)?;
+    into.push(b'"')?;
+    into.extend_from_slice(text.as_bytes())?;
+    into.push(b'"')?;
+    Ok(())
 }
 
 /// A blank name takes no memory. It stands where a short list keeps room for more names.
