@@ -1,5 +1,4 @@
 -- The quotes and the text go behind one another.
-use Rattle.std.proofs.Common.{◌∙◌}
 use Rattle.uvl_base.proofs.Quoting.{quoted_behind}
 use Rattle.uvl_base.proofs.name.print_quoted.Goals as goal
 
