@@ -1,0 +1,5 @@
+pub mod Agreeing
+pub mod Forcing
+pub mod Least
+pub mod Explaining
+pub mod Examples
