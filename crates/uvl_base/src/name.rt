@@ -67,6 +67,21 @@ impl Name {
         Ok(Name { text })
     }
 
+    /// The name with a text in front, each character of which may stand in a name. Only the memory of
+    /// the new name is taken, and its characters are not looked at.
+    pub fn behind(alloc: Global, front: &str, name: &Name) -> Result<Name, OutOfMemory>
+        requires { IsTrue (list_all may_stand_in_name (chars front.now)) }
+        ensures { IfOk result (λ whole. whole ≡ chars front.now ++ name.now) }
+    {
+        let name = name.text();
+        let mut text = String::with_capacity(alloc, front.len().saturating_add(name.len()))?;
+        text.push_str(front)?;
+        text.push_str(name)?;
+        Ok(Name {
+            text: Text::from(text),
+        })
+    }
+
     /// The characters, lent.
     pub fn text(&self) -> &str
         ensures characters { chars result.now ≡ self.now }
