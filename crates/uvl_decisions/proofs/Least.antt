@@ -6,7 +6,7 @@ use Rattle.std.proofs.lemmas.Bool.{and_from, and_parts, or_from}
 use Rattle.std.proofs.lemmas.Option.{none-some, cond_some}
 use Rattle.uvl_decisions.specs.Explanation.{parts_of, first_with, without_one}
 
-same-some : {A : Type 0} (x y : A) → Some x ≡ Some y → x ≡ y
+pub same-some : {A : Type 0} (x y : A) → Some x ≡ Some y → x ≡ y
 same-some x y h = (cond_some true x y h).1
 
 module _ {A : Type 0} where

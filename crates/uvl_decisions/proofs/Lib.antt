@@ -3,3 +3,4 @@ pub mod Forcing
 pub mod Least
 pub mod Explaining
 pub mod Examples
+pub mod Keeping

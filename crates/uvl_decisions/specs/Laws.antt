@@ -1,9 +1,13 @@
 -- What holds of decisions on every family of sets.
-use Rattle.std.specs.Prelude.{◌≡◌, ◌↔◌, ℕ, true, false, not, ◌&&◌, List, Some, is_some}
+use Rattle.std.specs.Prelude.{◌≡◌, ◌↔◌, ℕ, Bool, true, false, not, ◌&&◌, List, Some, is_some}
 use Rattle.std.specs.List.{list_any}
 use Rattle.uvl_semantics.specs.Family.{Family, IsOfSets, is_void}
 use Rattle.uvl_decisions.specs.Decisions.{Decision, opposite, agrees_with, agrees, agreeing, is_offered, is_forced}
 use Rattle.uvl_decisions.specs.Explanation.{explanation, without_one}
+use Rattle.uvl_decisions.specs.Deciding.{decide_answer, decided}
+use Rattle.uvl_decisions.specs.Opening.{open_answer, opened}
+use Rattle.uvl_decisions.specs.Retracting.{retract_answer, retracted}
+use Rattle.uvl_decisions.specs.Session.{Session, decisions_of, close}
 
 -- a value is forced exactly where each set of the family that agrees with the decisions has it
 abbrev pub ForcedIsInEachSet : Type 0
@@ -50,3 +54,17 @@ ExplanationsAreLeast =
     (family : Family) (decisions because : List Decision) (asked : Decision) →
     explanation family decisions asked ≡ Some because →
     list_any (λ part. is_forced family part asked) (without_one because) ≡ false
+
+-- some set of the family agrees with the decisions of a session
+abbrev pub HasASet : Family → Session → Type 0
+HasASet family session = is_void (agreeing family (decisions_of session)) ≡ false
+
+-- a session that is opened has such a set, and with it what is decided, retracted and closed
+pub record SessionsKeepASet : Type 0 where
+  pub opening : (family : Family) (is_there : Bool) (count : ℕ) (after : Session) → IsOfSets family →
+      open_answer family is_there count ≡ opened after → HasASet family after
+  pub deciding : (family : Family) (session after : Session) (asked : Decision) → IsOfSets family →
+      HasASet family session → decide_answer family session asked ≡ decided after → HasASet family after
+  pub retracting : (family : Family) (session after : Session) (feature : List ℕ) → IsOfSets family →
+      HasASet family session → retract_answer family session feature ≡ retracted after → HasASet family after
+  pub closing : (family : Family) (session : Session) → HasASet family session → HasASet family (close session)

@@ -1,6 +1,7 @@
 //! Laws of the definitions. The functions do nothing: what they ensure is the law.
 ghost use Rattle.uvl_decisions.specs.Laws.{ForcedIsInEachSet, OfferedIsInSomeSet, ForcedIsNotOfferedOtherwise};
 ghost use Rattle.uvl_decisions.specs.Laws.{NeverBothAreForced, ExplanationsForce, NoneIsForWhatIsNotForced, ExplanationsAreLeast};
+ghost use Rattle.uvl_decisions.specs.Laws.{SessionsKeepASet};
 
 use uvl_semantics::{sublists_tell_sets, void_families_have_no_set};
 
@@ -30,4 +31,13 @@ pub fn an_explanation_is_least()
     ensures least { ExplanationsAreLeast }
 {
     decisions_tell_sets();
+}
+
+/// Some set of the family agrees with the decisions of each session, from its opening on.
+pub fn sessions_keep_a_set()
+    ensures { SessionsKeepASet }
+{
+    void_families_have_no_set();
+    decisions_tell_sets();
+    an_explanation_is_least();
 }

@@ -3,4 +3,6 @@
 
 mod laws;
 
-pub use laws::{an_explanation_is_least, decisions_tell_sets, one_value_stays};
+pub use laws::{
+    an_explanation_is_least, decisions_tell_sets, one_value_stays, sessions_keep_a_set,
+};
