@@ -1,6 +1,6 @@
 -- Names that stand once.
 use Rattle.std.proofs.Common.{◌≡◌, ℕ, zero, suc, ◌+◌, ◌<◌, Bool, true, false, List, [], ◌∷◌, ◌++◌, map, take, drop, length, get_or, refl, sym, ap, ◌∙◌, subst, arith, Some, slice_get}
-use Rattle.std.specs.Prelude.{◌||◌}
+use Rattle.std.specs.Prelude.{◌||◌, not, if◌then◌else◌}
 use Rattle.std.specs.List.{list_any}
 use Rattle.std.specs.Str.{bytes_eq}
 use Rattle.std.proofs.lemmas.Bool.{false≢true}
@@ -39,6 +39,17 @@ distinct-push (x ∷ names) name h new =
       has-append names (name ∷ []) x h.0 (or_none (bytes_eq x name) false (eq-sym x name ∙ parts.0) refl),
       distinct-push names name h.1 parts.1,
     )
+
+-- names stay distinct where a new one goes last
+pub distinct-added : (before after : List (List ℕ)) (name : List ℕ) (new : Bool) → AreDistinct before → new ≡ not (has before name)
+    → after ≡ (if new then before ++ name ∷ [] else before) → AreDistinct after
+distinct-added before after name true distinct known is =
+    subst AreDistinct (sym is) (distinct-push before name distinct (is_new (has before name) (sym known)))
+  where
+    is_new : (b : Bool) → not b ≡ true → b ≡ false
+    is_new true h = absurd (false≢true h)
+    is_new false h = refl
+distinct-added before after name false distinct known is = subst AreDistinct (sym is) distinct
 
 -- a name at a place is none of another text
 none_at : (names : List (List ℕ)) (text : List ℕ) (i : ℕ) → has names text ≡ false → i < length names → bytes_eq (get_or names i text) text ≡ false

@@ -17,7 +17,7 @@ pub next_item : {A : Type 0} (all : List A) (i : ℕ) (item : A) → i < length 
 next_item {A} all i item h is = drop_more all i item h ∙ ap (λ (x : A). x ∷ drop (i + 1) all) (sym is)
 
 -- a dot is one character
-dot-is : chars (46 ∷ []) ≡ 46 ∷ []
+pub dot-is : chars (46 ∷ []) ≡ 46 ∷ []
 unfolding lib.Utf8.encode
 dot-is = chars-encodes (46 ∷ []) refl
 

@@ -11,6 +11,7 @@ mod LineKinds
 mod Walked
 mod WalkLines
 mod RulesWalked
+mod Standing
 mod Together
 mod FileWalked
 mod FilesWalked

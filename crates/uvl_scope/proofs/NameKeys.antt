@@ -1,5 +1,5 @@
 -- The keys of an index of names, read as names: by their characters.
-use Rattle.std.proofs.Common.{◌≡◌, ℕ, false, List, [], ◌∷◌, ◌++◌, map, position, Some, slice_get, refl, sym, ap, ◌∙◌, if◌then◌else◌, string_bytes, String}
+use Rattle.std.proofs.Common.{◌≡◌, ℕ, Bool, true, false, not, List, [], ◌∷◌, ◌++◌, map, position, Some, slice_get, refl, sym, ap, ◌∙◌, if◌then◌else◌, string_bytes, String}
 use Rattle.std.specs.Prelude.{IsUtf8, chars, encode_utf8_all}
 use Rattle.std.specs.List.{list_any, position_or_len}
 use Rattle.std.specs.Str.{bytes_eq}
@@ -46,13 +46,27 @@ module _ {Z : Type 0} where
     pub position-names_of_keys : (keys : List (String Z)) → position (λ key. bytes_eq text (string_bytes key)) keys ≡ position (bytes_eq (chars text)) (names_of_keys keys)
     position-names_of_keys keys = rw (first_place keys, sym (length-map keys (λ key. chars (string_bytes key)))) refl
 
-    -- a key that is not there goes last, and so does its name
-    pub names-insert_key : (keys next : List (String Z)) (key : String Z) → string_bytes key ≡ text → list_any (λ k. bytes_eq text (string_bytes k)) keys ≡ false
-        → next ≡ insert_key string_eq keys key → names_of_keys next ≡ names_of_keys keys ++ chars text ∷ []
-    names-insert_key keys next key same absent inserted =
-        let none : list_any (string_eq key) keys ≡ false = ap (λ (t : List ℕ). list_any (λ k. bytes_eq t (string_bytes k)) keys) same ∙ absent in
-        let last = inserted ∙ ap (λ b. if b then keys else keys ++ key ∷ []) none in
-        ap names_of_keys last ∙ map-append (λ name. chars (string_bytes name)) keys (key ∷ []) ∙ ap (λ t. names_of_keys keys ++ chars t ∷ []) same
+    -- a name goes last unless it is there
+    pub names-added : (keys next : List (String Z)) (key : String Z) (new : Bool) → string_bytes key ≡ text → new ≡ not (list_any (string_eq key) keys)
+        → next ≡ insert_key string_eq keys key
+        → (new ≡ not (has (names_of_keys keys) (chars text)))
+        × (names_of_keys next ≡ (if new then names_of_keys keys ++ chars text ∷ [] else names_of_keys keys))
+    names-added keys next key new same is inserted =
+        let tested : list_any (string_eq key) keys ≡ has (names_of_keys keys) (chars text) =
+        ap (λ (t : List ℕ). list_any (λ k. bytes_eq t (string_bytes k)) keys) same ∙ has-names_of_keys keys in
+        (is ∙ ap not tested, by (list_any (string_eq key) keys) refl)
+      where
+        by : (b : Bool) → list_any (string_eq key) keys ≡ b → names_of_keys next ≡ (if new then names_of_keys keys ++ chars text ∷ [] else names_of_keys keys)
+        by true there =
+            let no : new ≡ false = is ∙ ap not there in
+            ap names_of_keys (inserted ∙ ap (λ b. if b then keys else keys ++ key ∷ []) there)
+            ∙ ap (λ b. if b then names_of_keys keys ++ chars text ∷ [] else names_of_keys keys) (sym no)
+        by false none =
+            let yes : new ≡ true = is ∙ ap not none in
+            ap names_of_keys (inserted ∙ ap (λ b. if b then keys else keys ++ key ∷ []) none)
+            ∙ map-append (λ name. chars (string_bytes name)) keys (key ∷ [])
+            ∙ ap (λ t. names_of_keys keys ++ chars t ∷ []) same
+            ∙ ap (λ b. if b then names_of_keys keys ++ chars text ∷ [] else names_of_keys keys) (sym yes)
 
   -- the first key is the first name
   pub first_root : (keys : List (String Z)) (key : String Z) (name : List ℕ) → Some key ≡ slice_get keys 0

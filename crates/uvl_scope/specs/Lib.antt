@@ -7,6 +7,7 @@ pub mod Brought
 pub mod LineFaults
 pub mod RuleFaults
 pub mod Faults
+pub mod Spelling
 pub mod Trees
 pub mod Law
 pub mod steps

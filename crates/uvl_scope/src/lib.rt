@@ -22,3 +22,4 @@ pub use law::each_set_has_one_answer;
 pub use limits::{MOST_NODES, MOST_RULES};
 pub use names::NameIndex;
 pub use scope::{Scope, Scopes};
+pub use spelling::push_dotted;

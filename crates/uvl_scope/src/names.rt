@@ -55,12 +55,9 @@ impl NameIndex {
         ensures known { IfOk result (λ new. new ≡ not (has self.old (chars name.now))) }
         ensures err { OnErr result (self.new ≡ self.old) }
     {
-        if self.names.contains(name) {
-            return Ok(false);
-        }
         let name = String::from_str(*self.names.allocator(), name)?;
-        self.names.insert(name)?;
-        Ok(true)
+        let (_number, new) = self.names.insert_full(name)?;
+        Ok(new)
     }
 
     /// Whether the name is there.

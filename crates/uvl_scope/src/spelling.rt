@@ -1,6 +1,7 @@
 //! Names joined by dots.
 ghost use Rattle.std.specs.Prelude.{◌≡◌, ◌++◌, chars, string_bytes, IfOk, OnOk};
 ghost use Rattle.uvl_placing.specs.Names.{dotted, behind_dots};
+ghost use Rattle.uvl_scope.specs.Spelling.{MayStandInName};
 
 use std::alloc::Global;
 use uvl_base::{Name, OutOfMemory};
@@ -14,9 +15,11 @@ pub(crate) fn dotted(alloc: Global, names: &[Name]) -> Result<String, OutOfMemor
     Ok(text)
 }
 
-/// Puts names behind a text, joined by dots.
-pub(crate) fn push_dotted(text: &mut String, names: &[Name]) -> Result<(), OutOfMemory>
-    ensures { OnOk result (chars (string_bytes text.new) ≡ chars (string_bytes text.old) ++ dotted names.now) }
+/// Puts names behind a text, joined by dots. A text that may stand in a name stays one.
+pub fn push_dotted(text: &mut String, names: &[Name]) -> Result<(), OutOfMemory>
+    ensures pushed { OnOk result (chars (string_bytes text.new) ≡ chars (string_bytes text.old) ++ dotted names.now) }
+    ensures name { OnOk result
+        (MayStandInName (chars (string_bytes text.old)) → MayStandInName (chars (string_bytes text.new))) }
 {
     let Some((first, others)) = names.split_first() else {
         return Ok(());
@@ -27,7 +30,10 @@ pub(crate) fn push_dotted(text: &mut String, names: &[Name]) -> Result<(), OutOf
 
 /// Puts names behind a text, with a dot in front of each.
 fn push_behind_dots(text: &mut String, names: &[Name]) -> Result<(), OutOfMemory>
-    ensures { OnOk result (chars (string_bytes text.new) ≡ chars (string_bytes text.old) ++ behind_dots names.now) }
+    ensures pushed { OnOk result
+        (chars (string_bytes text.new) ≡ chars (string_bytes text.old) ++ behind_dots names.now) }
+    ensures name { OnOk result
+        (MayStandInName (chars (string_bytes text.old)) → MayStandInName (chars (string_bytes text.new))) }
 {
     for name in names {
         text.push_str(".")?;

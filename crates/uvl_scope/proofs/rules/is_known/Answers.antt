@@ -10,5 +10,5 @@ pub returns : goal.returns
 returns c =
     c.has-2.ensures
     ∙ ap (has c.args.names.now)
-    (ap chars c.as_str.ensures.value ∙ c.in_ok-push_dotted.ensures
+    (ap chars c.as_str.ensures.value ∙ c.in_ok-push_dotted.ensures.pushed
     ∙ behind_nothing (string_bytes c.clear.new.self) (dotted c.as_slice-2.result.now) c.clear.ensures.bytes ∙ ap dotted c.as_slice-2.ensures)

@@ -5,4 +5,4 @@ use Rattle.uvl_scope.proofs.Dotting.{behind_nothing}
 use Rattle.uvl_scope.proofs.spelling.dotted.Goals as goal
 
 pub returns : goal.returns
-returns c = c.in_ok-push_dotted.ensures ∙ behind_nothing (string_bytes c.new-text.result) (dotted c.args.names.now) c.new-text.ensures.bytes
+returns c = c.in_ok-push_dotted.ensures.pushed ∙ behind_nothing (string_bytes c.new-text.result) (dotted c.args.names.now) c.new-text.ensures.bytes
