@@ -52,32 +52,34 @@ release-requires-3 t c =
     omega arith
 
 pub returns : goal.returns
-returns t c = record { gained = record {
-  gained = let own = one_on-itself (c.in_ok-made.made) in
-      let f0 = c.in_ok-low.ensures.gained.each (c.in_ok-made.made) in
-      let f1 = c.in_ok-high.ensures.gained.each (c.in_ok-made.made) in
-      let f2 = c.in_ok-variable.ensures.gained.each (c.in_ok-made.made) in
-      let f3 = c.in_ok-made.ensures.gained.each (c.in_ok-made.made) in
-      let f4 = c.release.ensures.lost.each (c.in_ok-made.made) in
-      let f5 = c.release-2.ensures.lost.each (c.in_ok-made.made) in
-      let f6 = c.release-3.ensures.lost.each (c.in_ok-made.made) in
-      omega arith;
-  each = λ n.
-      let f0 = c.in_ok-low.ensures.gained.each n in
-      let f1 = c.in_ok-high.ensures.gained.each n in
-      let f2 = c.in_ok-variable.ensures.gained.each n in
-      let f3 = c.in_ok-made.ensures.gained.each n in
-      let f4 = c.release.ensures.lost.each n in
-      let f5 = c.release-2.ensures.lost.each n in
-      let f6 = c.release-3.ensures.lost.each n in
-      omega arith;
-  total =
-      let f0 = c.in_ok-low.ensures.gained.total in
-      let f1 = c.in_ok-high.ensures.gained.total in
-      let f2 = c.in_ok-variable.ensures.gained.total in
-      let f3 = c.in_ok-made.ensures.gained.total in
-      let f4 = c.release.ensures.lost.total in
-      let f5 = c.release-2.ensures.lost.total in
-      let f6 = c.release-3.ensures.lost.total in
-      omega arith;
-} }
+returns t c = record {
+  gained = record {
+    gained = let own = one_on-itself (c.in_ok-made.made) in
+        let f0 = c.in_ok-low.ensures.gained.each (c.in_ok-made.made) in
+        let f1 = c.in_ok-high.ensures.gained.each (c.in_ok-made.made) in
+        let f2 = c.in_ok-variable.ensures.gained.each (c.in_ok-made.made) in
+        let f3 = c.in_ok-made.ensures.gained.each (c.in_ok-made.made) in
+        let f4 = c.release.ensures.lost.each (c.in_ok-made.made) in
+        let f5 = c.release-2.ensures.lost.each (c.in_ok-made.made) in
+        let f6 = c.release-3.ensures.lost.each (c.in_ok-made.made) in
+        omega arith;
+    each = λ n.
+        let f0 = c.in_ok-low.ensures.gained.each n in
+        let f1 = c.in_ok-high.ensures.gained.each n in
+        let f2 = c.in_ok-variable.ensures.gained.each n in
+        let f3 = c.in_ok-made.ensures.gained.each n in
+        let f4 = c.release.ensures.lost.each n in
+        let f5 = c.release-2.ensures.lost.each n in
+        let f6 = c.release-3.ensures.lost.each n in
+        omega arith;
+    total =
+        let f0 = c.in_ok-low.ensures.gained.total in
+        let f1 = c.in_ok-high.ensures.gained.total in
+        let f2 = c.in_ok-variable.ensures.gained.total in
+        let f3 = c.in_ok-made.ensures.gained.total in
+        let f4 = c.release.ensures.lost.total in
+        let f5 = c.release-2.ensures.lost.total in
+        let f6 = c.release-3.ensures.lost.total in
+        omega arith;
+  };
+}

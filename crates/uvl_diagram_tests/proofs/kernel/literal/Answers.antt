@@ -23,26 +23,28 @@ release-requires-2 c =
     omega arith
 
 pub returns : goal.returns
-returns c = record { gained = record {
-  gained = let own = one_on-itself (c.in_ok-made.made) in
-      let f0 = c.in_ok-no.ensures.gained.each (c.in_ok-made.made) in
-      let f1 = c.in_ok-yes.ensures.gained.each (c.in_ok-made.made) in
-      let f2 = c.in_ok-made.ensures.gained.each (c.in_ok-made.made) in
-      let f3 = c.release.ensures.lost.each (c.in_ok-made.made) in
-      let f4 = c.release-2.ensures.lost.each (c.in_ok-made.made) in
-      omega arith;
-  each = λ n.
-      let f0 = c.in_ok-no.ensures.gained.each n in
-      let f1 = c.in_ok-yes.ensures.gained.each n in
-      let f2 = c.in_ok-made.ensures.gained.each n in
-      let f3 = c.release.ensures.lost.each n in
-      let f4 = c.release-2.ensures.lost.each n in
-      omega arith;
-  total =
-      let f0 = c.in_ok-no.ensures.gained.total in
-      let f1 = c.in_ok-yes.ensures.gained.total in
-      let f2 = c.in_ok-made.ensures.gained.total in
-      let f3 = c.release.ensures.lost.total in
-      let f4 = c.release-2.ensures.lost.total in
-      omega arith;
-} }
+returns c = record {
+  gained = record {
+    gained = let own = one_on-itself (c.in_ok-made.made) in
+        let f0 = c.in_ok-no.ensures.gained.each (c.in_ok-made.made) in
+        let f1 = c.in_ok-yes.ensures.gained.each (c.in_ok-made.made) in
+        let f2 = c.in_ok-made.ensures.gained.each (c.in_ok-made.made) in
+        let f3 = c.release.ensures.lost.each (c.in_ok-made.made) in
+        let f4 = c.release-2.ensures.lost.each (c.in_ok-made.made) in
+        omega arith;
+    each = λ n.
+        let f0 = c.in_ok-no.ensures.gained.each n in
+        let f1 = c.in_ok-yes.ensures.gained.each n in
+        let f2 = c.in_ok-made.ensures.gained.each n in
+        let f3 = c.release.ensures.lost.each n in
+        let f4 = c.release-2.ensures.lost.each n in
+        omega arith;
+    total =
+        let f0 = c.in_ok-no.ensures.gained.total in
+        let f1 = c.in_ok-yes.ensures.gained.total in
+        let f2 = c.in_ok-made.ensures.gained.total in
+        let f3 = c.release.ensures.lost.total in
+        let f4 = c.release-2.ensures.lost.total in
+        omega arith;
+  };
+}
