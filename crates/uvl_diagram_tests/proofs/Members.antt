@@ -32,6 +32,6 @@ all_in (v ∷ vs) = All-cons (λ (u : Var). IsIn (v ∷ vs) u.0) v vs (first (v.
     first false is = absurd (true≢false (sym is))
 
 -- all variables of a table can be members
-pub all_are_members : {t : Table} (vs : List Var) → vs ≡ t.order → IsSound t → AreMembers t vs
-all_are_members {t} vs same sound = subst (λ (us : List Var). AreMembers t us) (sym same)
+pub all_are_members : (t : Table) (vs : List Var) → vs ≡ t.order → IsSound t → AreMembers t vs
+all_are_members t vs same sound = subst (λ (us : List Var). AreMembers t us) (sym same)
     (record { there = all_in t.order; distinct = sound.reduced.rows.distinct })
