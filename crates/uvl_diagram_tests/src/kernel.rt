@@ -301,10 +301,10 @@ fn all_functions_of_three_variables_are_combined(rt: HostRuntime) -> Result<(), 
         trio = trio.making(alloc, f, 3)?.turned().turned();
         for g in 0u64..256 {
             trio = expect_all(&rt, alloc, trio, f, g)?;
-        }
-        // What is kept, and what is there already, is another thing at each function.
-        if f % 3 == 0 {
-            trio = trio.cleared(f % 2 == 0);
+            // What is kept, and what is there already, is another thing at each pair.
+            if (f ^ g) % 7 == 0 {
+                trio = trio.cleared(g % 2 == 0);
+            }
         }
     }
     Ok(())
@@ -352,7 +352,7 @@ fn random_sequences_of_calls_give_the_lists_of_truth_values(rt: HostRuntime) -> 
     let alloc = rt.alloc();
     let mut trio = Trio::new(alloc, VARIABLES, 256)?;
     let mut seed = 1u32;
-    for _ in 0u32..4_000 {
+    for _ in 0u32..100_000 {
         seed = next(seed);
         trio = step(&rt, alloc, trio, seed)?;
         if seed % 64 == 0 {
@@ -412,18 +412,19 @@ fn each_operation_is_refused_where_the_table_is_full(rt: HostRuntime) -> Result<
     for asked in ALL {
         let mut count = 0u32;
         for budget in 16u32..65 {
-            for number in 0u32..2 {
+            for number in 0u32..20 {
                 let seed = budget.saturating_add(number.saturating_mul(1000));
                 if is_refused(&rt, rt.alloc(), budget, asked, seed)? {
                     count = count.saturating_add(1);
                 }
             }
         }
-        assert!(rt; count > 10, "{asked:?} {count}");
+        assert!(rt; count > 100, "{asked:?} {count}");
     }
     Ok(())
 }
 
+/// The process of a test has the usual 8 MiB of stack, of which this takes less than one.
 #[test]
 fn operations_go_down_4096_levels(rt: HostRuntime) -> Result<(), Fail> {
     let alloc = rt.alloc();
