@@ -28,6 +28,16 @@ def doubling(steps, base, rules=()):
     return files
 
 
+def twice_two(steps):
+    """Files e0, e1, .. of which each behind the first two places both before it twice."""
+    files = {"e0.uvl": LEAF, "e1.uvl": LEAF}
+    for number in range(2, steps + 1):
+        imports = [f"e{number - 1} as x", f"e{number - 1} as y", f"e{number - 2} as v", f"e{number - 2} as w"]
+        tree = "\tA", "\t\toptional", "\t\t\tx.A", "\t\t\ty.A", "\t\t\tv.A", "\t\t\tw.A"
+        files[f"e{number}.uvl"] = file_with(imports, *tree)
+    return files
+
+
 def importing(count, *more):
     """A main file that imports so many files, and more lines; with these files."""
     files = {f"f{number}.uvl": LEAF for number in range(count)}
@@ -65,6 +75,10 @@ def sets_of_many_features():
     yield "2,049 features", {MAIN: (root + members(2048)).encode()}, MAIN, "fault main.uvl:2051:4 E23 TooManyFeatures\n"
     yield "2,047 placed features", doubling(10, LEAF), "d10.uvl", TAKEN
     yield "4,095 placed features", doubling(11, LEAF), "d11.uvl", "fault d11.uvl:8:4 E23 TooManyFeatures\n"
+    # 1, 1, 5, 13, 37, 101, 277, 757 features, and in e8 757 + 757 + 277 + 277 + 1
+    yield "757 features of files that place two others twice", twice_two(7), "e7.uvl", TAKEN
+    yield "2,069 of these", twice_two(8), "e8.uvl", "fault e8.uvl:12:4 E23 TooManyFeatures\n"
+    yield "16 files of which each places two others twice", twice_two(16), "e16.uvl", "fault e8.uvl:12:4 E23 TooManyFeatures\n"
     below = file_with(["deep"], "\tA", "\t\toptional", "\t\t\tB", "\t\t\tdeep.F1")
     files = {"deep.uvl": chain(63, "\n").encode(), MAIN: below}
     yield "a chain of 63 below a root", files, MAIN, TAKEN

@@ -11,6 +11,4 @@ mod resolve;
 #[cfg(test)]
 mod run;
 #[cfg(test)]
-mod store;
-#[cfg(test)]
 mod texts;

@@ -15,3 +15,15 @@ release-requires-2 c =
     let a = c.in_ok-more.ensures.gained.each c.args.self.clause in
     let b = c.release.ensures.lost.each c.args.self.clause in
     omega arith
+
+pub invariant_of-result : goal.invariant_of-result
+invariant_of-result c = record {
+  live = λ n.
+      let has = c.args.self.live n in
+      let a = c.in_ok-more.ensures.gained.each n in
+      let b = c.release.ensures.lost.each n in
+      let d = c.release-2.ensures.lost.each n in
+      let e = c.in_ok-clause.ensures.gained.each n in
+      let k = c.has_collected-collected.ensures.kept n in
+      omega arith;
+}

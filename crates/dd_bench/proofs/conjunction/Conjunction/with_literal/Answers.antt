@@ -5,65 +5,32 @@ use Rattle.dd_bench.proofs.conjunction.Conjunction.with_literal.Goals as goal
 
 pub or-requires-clause-a_live : goal.or-requires-clause-a_live
 or-requires-clause-a_live c =
-    let has = c.args.self.live (c.args.self.clause) in let own = one_on-itself (c.args.self.clause) in
-    let a = c.in_ok-no.ensures.gained.each (c.args.self.clause) in
-    let b = c.in_ok-yes.ensures.gained.each (c.args.self.clause) in
-    let d = c.in_ok-literal.ensures.gained.each (c.args.self.clause) in
+    let has = c.args.self.live c.args.self.clause in let own = one_on-itself c.args.self.clause in
+    let a = c.in_ok-literal.ensures.gained.each c.args.self.clause in
     omega arith
 
 pub release-requires : goal.release-requires
 release-requires c =
-    let has = c.args.self.live (c.in_ok-no.no) in let own = one_on-itself (c.in_ok-no.no) in
-    let a = c.in_ok-no.ensures.gained.each (c.in_ok-no.no) in
-    let b = c.in_ok-yes.ensures.gained.each (c.in_ok-no.no) in
-    let d = c.in_ok-literal.ensures.gained.each (c.in_ok-no.no) in
-    let e = c.in_ok-longer.ensures.gained.each (c.in_ok-no.no) in
+    let own = one_on-itself c.in_ok-literal.literal in
+    let a = c.in_ok-literal.ensures.gained.each c.in_ok-literal.literal in
+    let b = c.in_ok-longer.ensures.gained.each c.in_ok-literal.literal in
     omega arith
 
 pub release-requires-2 : goal.release-requires-2
 release-requires-2 c =
-    let has = c.args.self.live (c.in_ok-yes.yes) in let own = one_on-itself (c.in_ok-yes.yes) in
-    let a = c.in_ok-no.ensures.gained.each (c.in_ok-yes.yes) in
-    let b = c.in_ok-yes.ensures.gained.each (c.in_ok-yes.yes) in
-    let d = c.in_ok-literal.ensures.gained.each (c.in_ok-yes.yes) in
-    let e = c.in_ok-longer.ensures.gained.each (c.in_ok-yes.yes) in
-    let f = c.release.ensures.lost.each (c.in_ok-yes.yes) in
-    omega arith
-
-pub release-requires-3 : goal.release-requires-3
-release-requires-3 c =
-    let has = c.args.self.live (c.in_ok-literal.literal) in let own = one_on-itself (c.in_ok-literal.literal) in
-    let a = c.in_ok-no.ensures.gained.each (c.in_ok-literal.literal) in
-    let b = c.in_ok-yes.ensures.gained.each (c.in_ok-literal.literal) in
-    let d = c.in_ok-literal.ensures.gained.each (c.in_ok-literal.literal) in
-    let e = c.in_ok-longer.ensures.gained.each (c.in_ok-literal.literal) in
-    let f = c.release.ensures.lost.each (c.in_ok-literal.literal) in
-    let g = c.release-2.ensures.lost.each (c.in_ok-literal.literal) in
-    omega arith
-
-pub release-requires-4 : goal.release-requires-4
-release-requires-4 c =
-    let has = c.args.self.live (c.args.self.clause) in let own = one_on-itself (c.args.self.clause) in
-    let a = c.in_ok-no.ensures.gained.each (c.args.self.clause) in
-    let b = c.in_ok-yes.ensures.gained.each (c.args.self.clause) in
-    let d = c.in_ok-literal.ensures.gained.each (c.args.self.clause) in
-    let e = c.in_ok-longer.ensures.gained.each (c.args.self.clause) in
-    let f = c.release.ensures.lost.each (c.args.self.clause) in
-    let g = c.release-2.ensures.lost.each (c.args.self.clause) in
-    let h = c.release-3.ensures.lost.each (c.args.self.clause) in
+    let has = c.args.self.live c.args.self.clause in let own = one_on-itself c.args.self.clause in
+    let a = c.in_ok-literal.ensures.gained.each c.args.self.clause in
+    let b = c.in_ok-longer.ensures.gained.each c.args.self.clause in
+    let d = c.release.ensures.lost.each c.args.self.clause in
     omega arith
 
 pub invariant_of-result : goal.invariant_of-result
 invariant_of-result c = record {
   live = λ n.
       let has = c.args.self.live n in
-      let a = c.in_ok-no.ensures.gained.each n in
-      let b = c.in_ok-yes.ensures.gained.each n in
-      let d = c.in_ok-literal.ensures.gained.each n in
-      let e = c.in_ok-longer.ensures.gained.each n in
-      let f = c.release.ensures.lost.each n in
-      let g = c.release-2.ensures.lost.each n in
-      let h = c.release-3.ensures.lost.each n in
-      let k = c.release-4.ensures.lost.each n in
+      let a = c.in_ok-literal.ensures.gained.each n in
+      let b = c.in_ok-longer.ensures.gained.each n in
+      let d = c.release.ensures.lost.each n in
+      let e = c.release-2.ensures.lost.each n in
       omega arith;
 }
