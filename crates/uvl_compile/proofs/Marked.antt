@@ -24,6 +24,9 @@ and-swap true false = refl
 and-swap false true = refl
 and-swap false false = refl
 
+pub both-assoc : (f g h : Function) → both f (both g h) ≡ both (both f g) h
+both-assoc f g h = λ j a. and-assoc (f a) (g a) (h a) j
+
 -- no mark
 pub marked-none : (fs : List Function) (marks : List Bool) → All (λ mark. mark ≡ false) marks → (a : ℕ → Bool) → marked_hold fs marks a ≡ true
 marked-none [] marks none a = refl

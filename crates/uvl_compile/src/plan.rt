@@ -9,25 +9,25 @@ use uvl_model::{FeatureNo, FeatureRow, GroupRow, Model};
 /// Where a condition stands in a plan: places are met in this order.
 #[derive(Clone, Copy, Debug, PartialEq, Eq, PartialOrd, Ord)]
 struct Place {
-    /// How many groups are met in front of it or are it, from the last one up.
-    groups: usize,
-    /// The order of those that have this in common: the group first.
+    /// The feature whose groups it is one of, or goes behind, counted down: the last feature comes first.
+    down: u32,
+    /// The order of those that have this in common: the groups first.
     rank: u32,
     /// The condition.
     number: usize,
 }
 
-/// Each rule behind the groups of the smallest subtree that has its features, and of these the shortest first.
+/// Each feature's groups from the last feature up, so that all below a feature is met before its variable is. Each rule
+/// behind the groups of the smallest subtree that has its features, and of these the shortest first.
 pub(crate) fn near(alloc: Global, model: &Model) -> Result<Vec<usize>, OutOfMemory> {
     let groups = model.groups();
     let ends = subtree_ends(alloc, model.features())?;
-    let firsts = first_groups(alloc, model.features(), groups)?;
+    let parents = are_parents(alloc, model.features(), groups)?;
     let mut places = group_places(alloc, groups)?;
     for (number, rule) in model.rules().iter().enumerate() {
         let span = span_of(rule);
-        let first = group_above(model.features(), &ends, &firsts, span);
         places.push(Place {
-            groups: groups.len().saturating_sub(first),
+            down: u32::MAX - feature_above(model.features(), &ends, &parents, span),
             rank: span.length().saturating_add(1),
             number: groups.len().saturating_add(number),
         })?;
@@ -35,13 +35,13 @@ pub(crate) fn near(alloc: Global, model: &Model) -> Result<Vec<usize>, OutOfMemo
     numbers_of(alloc, places)
 }
 
-/// All groups, and then the rules by falling least feature.
+/// All groups as above, and then the rules by falling least feature.
 pub(crate) fn upward(alloc: Global, model: &Model) -> Result<Vec<usize>, OutOfMemory> {
     let groups = model.groups();
     let mut places = group_places(alloc, groups)?;
     for (number, rule) in model.rules().iter().enumerate() {
         places.push(Place {
-            groups: groups.len(),
+            down: u32::MAX,
             rank: u32::MAX - span_of(rule).least,
             number: groups.len().saturating_add(number),
         })?;
@@ -49,12 +49,12 @@ pub(crate) fn upward(alloc: Global, model: &Model) -> Result<Vec<usize>, OutOfMe
     numbers_of(alloc, places)
 }
 
-/// The places of the groups, from the last one up.
+/// The places of the groups.
 fn group_places(alloc: Global, groups: &[GroupRow]) -> Result<Vec<Place>, OutOfMemory> {
     let mut places = Vec::new(alloc);
-    for number in 0..groups.len() {
+    for (number, group) in groups.iter().enumerate() {
         places.push(Place {
-            groups: groups.len() - number,
+            down: u32::MAX - group.parent.0,
             rank: 0,
             number,
         })?;
@@ -98,37 +98,32 @@ fn number_at(numbers: &[usize], place: usize) -> usize {
     numbers.get(place).copied().unwrap_or(0)
 }
 
-/// The first group of each feature, where it has one.
-fn first_groups(
+/// Whether each feature has groups.
+fn are_parents(
     alloc: Global,
     features: &[FeatureRow],
     groups: &[GroupRow],
-) -> Result<Vec<Option<usize>>, OutOfMemory> {
-    let mut firsts = vec![in alloc; None; features.len()]?;
-    for (number, group) in groups.iter().enumerate().rev() {
-        if let Some(first) = firsts.get_mut(group.parent.0 as usize) {
-            *first = Some(number);
+) -> Result<Vec<bool>, OutOfMemory> {
+    let mut parents = vec![in alloc; false; features.len()]?;
+    for group in groups {
+        if let Some(is_parent) = parents.get_mut(group.parent.0 as usize) {
+            *is_parent = true;
         }
     }
-    Ok(firsts)
+    Ok(parents)
 }
 
-/// The first group of the deepest feature that has groups and whose subtree has a span.
-fn group_above(
-    features: &[FeatureRow],
-    ends: &[usize],
-    firsts: &[Option<usize>],
-    span: Span,
-) -> usize {
-    let mut feature = span.least as usize;
+/// The deepest feature that has groups and whose subtree has a span.
+fn feature_above(features: &[FeatureRow], ends: &[usize], parents: &[bool], span: Span) -> u32 {
+    let mut feature = span.least;
     for _ in 0..MOST_DEPTH {
-        if let Some(Some(first)) = firsts.get(feature)
-            && span.greatest as usize <= number_at(ends, feature)
+        if let Some(true) = parents.get(feature as usize)
+            && span.greatest as usize <= number_at(ends, feature as usize)
         {
-            return *first;
+            return feature;
         }
-        match features.get(feature).and_then(|row| row.parent) {
-            Some(parent) => feature = parent.0 as usize,
+        match features.get(feature as usize).and_then(|row| row.parent) {
+            Some(parent) => feature = parent.0,
             None => return 0,
         }
     }

@@ -1,5 +1,6 @@
 //! The names of the variables of a table.
-ghost use Rattle.std.specs.Prelude.{◌≡◌, ◌↔◌, ◌<◌, ◌≤◌, ℕ, [], ◌∷◌, ◌++◌, Some, Err, map, length, slice_get, option_copied, not, count_by};
+ghost use Rattle.std.specs.Prelude.{◌≡◌, ◌↔◌, ◌<◌, ◌≤◌, ℕ, [], ◌∷◌, ◌++◌, Some, Err, map, length, not, count_by};
+ghost use Rattle.std.specs.Prelude.{slice_get, option_copied};
 ghost use Rattle.std.specs.Prelude.{IfOk, IfErr, OnOk, OnErr, IsFalse, vec_len, vec_capacity};
 ghost use Rattle.std.specs.String.{string_eq};
 ghost use Rattle.indexmap.specs.IndexSet.{insert_key, spare};
@@ -111,7 +112,8 @@ impl Names {
         // Too many exactly where more would be needed than there may be: those there and the new ones.
         ensures too_many { (needed : ℕ) → (result ≡ Err (PlaceRefusal.TooManyVariables needed)) ↔
             ((needed ≡ length (with_names self.old (feature_names model.now))) × (most_variables < needed)) }
-        ensures refused { IfErr result (IsPlacedSoFar self.old self.new (feature_names model.now) kernel.old kernel.new) }
+        ensures refused { IfErr result
+            (IsPlacedSoFar self.old self.new (feature_names model.now) kernel.old kernel.new) }
     {
         // The names of a model differ: a fact for the proof.
         rows_give_names();
