@@ -1,7 +1,8 @@
--- What numbers of rules are under a mark for each feature, and whether rules with numbers hold: the plain check reads rows
--- alone. Numbers are in millionths, and a product of two in units of 10^-12; both are exact.
-use Rattle.std.specs.Prelude.{ℕ, ◌+◌, ◌*◌, ◌^◌, ℤ, pos, ◌+ℤ◌, ◌-ℤ◌, ◌*ℤ◌, ◌≤ℤ◌, Bool, true, not, ◌&&◌, ◌||◌, nat_lt, if◌then◌else◌}
-use Rattle.std.specs.Prelude.{List, [], ◌∷◌, drop, slice_get, unwrap_or, map, sum, ◌≤◌}
+-- What numbers of rules are under a mark for each feature, and whether rules with numbers hold then. Numbers are in
+-- millionths, and a product of two in units of 10^-12; both are exact.
+use Rattle.std.specs.Prelude.{ℕ, ◌+◌, ◌*◌, ◌^◌, ◌≤◌, nat_lt, ℤ, pos, ◌+ℤ◌, ◌-ℤ◌, ◌*ℤ◌, ◌≤ℤ◌}
+use Rattle.std.specs.Prelude.{Bool, true, not, ◌&&◌, ◌||◌, if◌then◌else◌}
+use Rattle.std.specs.Prelude.{List, [], ◌∷◌, drop, slice_get, unwrap_or, map, sum}
 use Rattle.std.specs.Bool.{beq}
 use Rattle.std.specs.List.{All, list_all, before_first}
 use Rattle.std.specs.Option.{option_map}
