@@ -16,16 +16,16 @@ use Rattle.uvl_semantics.specs.Values.{heads_in, heads_below, heads_below_groups
 
 mutual
   -- the rows of a tree have its heads
-  heads_spelled : (tree : Tree) (parent : Option FeatureNo) (n : ℕ) → map head_of_row (feature_rows parent n tree) ≡ heads_of tree
+  pub heads_spelled : (tree : Tree) (parent : Option FeatureNo) (n : ℕ) → map head_of_row (feature_rows parent n tree) ≡ heads_of tree
   heads_spelled (feature head below) parent n = ap (λ heads. head ∷ heads) (groups_spelled below (numbered n) (n + 1))
 
-  groups_spelled : (groups : Groups) (parent : FeatureNo) (n : ℕ) → map head_of_row (feature_rows_of_groups parent n groups) ≡ heads_of_groups groups
+  pub groups_spelled : (groups : Groups) (parent : FeatureNo) (n : ℕ) → map head_of_row (feature_rows_of_groups parent n groups) ≡ heads_of_groups groups
   groups_spelled no_groups parent n = refl
   groups_spelled (group lo hi members others) parent n =
       map-append head_of_row (feature_rows_of_members parent n members) (feature_rows_of_groups parent (n + size_of_members members) others)
       ∙ rw (members_spelled members parent n, groups_spelled others parent (n + size_of_members members)) refl
 
-  members_spelled : (members : Members) (parent : FeatureNo) (n : ℕ) → map head_of_row (feature_rows_of_members parent n members) ≡ heads_of_members members
+  pub members_spelled : (members : Members) (parent : FeatureNo) (n : ℕ) → map head_of_row (feature_rows_of_members parent n members) ≡ heads_of_members members
   members_spelled no_members parent n = refl
   members_spelled (member tree others) parent n =
       map-append head_of_row (feature_rows (Some parent) n tree) (feature_rows_of_members parent (n + size_of tree) others)
@@ -33,16 +33,16 @@ mutual
 
 mutual
   -- as many heads as names
-  heads_counted : (tree : Tree) → length (heads_of tree) ≡ size_of tree
+  pub heads_counted : (tree : Tree) → length (heads_of tree) ≡ size_of tree
   heads_counted (feature head below) = ap suc (groups_counted below)
 
-  groups_counted : (groups : Groups) → length (heads_of_groups groups) ≡ length (names_of_groups groups)
+  pub groups_counted : (groups : Groups) → length (heads_of_groups groups) ≡ length (names_of_groups groups)
   groups_counted no_groups = refl
   groups_counted (group lo hi members others) =
       length-append (heads_of_members members) (heads_of_groups others)
       ∙ rw (members_counted members, groups_counted others) (sym (length-append (names_of_members members) (names_of_groups others)))
 
-  members_counted : (members : Members) → length (heads_of_members members) ≡ size_of_members members
+  pub members_counted : (members : Members) → length (heads_of_members members) ≡ size_of_members members
   members_counted no_members = refl
   members_counted (member tree others) =
       length-append (heads_of tree) (heads_of_members others)
@@ -183,7 +183,7 @@ module _ (top : List ℕ) where
         ∙ rw (top_marked tree, top_members_marked others) refl
 
 -- what is below a name in rows
-below_spelled : (tree : Tree) (rows : Rows) → Spells tree rows → (top : List ℕ) → heads_below_rows rows top ≡ heads_below top tree
+pub below_spelled : (tree : Tree) (rows : Rows) → Spells tree rows → (top : List ℕ) → heads_below_rows rows top ≡ heads_below top tree
 below_spelled tree rows spelled top =
     rw (spelled.features, heads_spelled tree None 0, tree_marked top tree None 0 [] false refl refl) (top_marked top tree)
 

@@ -1,15 +1,13 @@
 -- The products of rows are those of each tree that the rows spell: a set is one where the root and the groups' rows hold under
 -- its marks, and the rules hold in it.
-use Rattle.std.proofs.Common.{◌≡◌, ℕ, ◌+◌, Bool, true, false, ◌&&◌, List, [], ◌∷◌, map, inl, inr, Option, None, Some, refl, sym, ap, ◌∙◌, subst, if◌then◌else◌}
+use Rattle.std.proofs.Common.{◌≡◌, ℕ, ◌+◌, Bool, true, false, ◌&&◌, List, [], ◌∷◌, map, inl, inr, refl, sym, ap, ◌∙◌, subst, if◌then◌else◌}
 use Rattle.std.specs.List.{list_all}
 use Rattle.std.proofs.Math.Path.{fun_ext}
 use Rattle.std.specs.Str.{bytes_eq}
 use Rattle.std.proofs.lemmas.Bool.{and_parts, false≢true, or_cases}
 use Rattle.std.proofs.lemmas.Bool.Decides.{same_from_decides}
 use Rattle.std.proofs.lemmas.Slice.Eq.{bytes_eq-Decides}
-use Rattle.std.proofs.lemmas.List.{map-append}
-use Rattle.uvl_model.specs.declared.rows.FeatureNo.{FeatureNo}
-use Rattle.uvl_model.specs.declared.rows.FeatureRow.{FeatureRow}
+use Rattle.uvl_model.specs.Amounts.{rows_are_met}
 use Rattle.uvl_model.specs.Check.{is_marked, groups_hold, rows_hold}
 use Rattle.uvl_model.specs.Comparisons.{HaveNoComparison}
 use Rattle.uvl_model.specs.Constraints.{constraints_of}
@@ -19,39 +17,20 @@ use Rattle.uvl_model.specs.Names.{feature_names, chosen_names}
 use Rattle.uvl_model.specs.Products.{Products, is_product_of, rules_hold}
 use Rattle.uvl_model.specs.Rows.{Rows}
 use Rattle.uvl_model.specs.Sound.{IsSound, AreDistinct}
-use Rattle.uvl_model.specs.Spelling.{Spells, numbered, size_of, size_of_members, feature_rows, feature_rows_of_groups, feature_rows_of_members}
+use Rattle.uvl_model.specs.Spelling.{Spells, numbered}
 use Rattle.uvl_semantics.specs.Family.{IsTestOfSets, IsOfSets, ProductsOf, is_product}
 use Rattle.uvl_semantics.specs.Holding.{holds_by}
 use Rattle.uvl_semantics.specs.Values.{Heads}
 use Rattle.uvl_semantics.specs.Product.{has, fits, is_absent, is_product_of_tree}
-use Rattle.uvl_semantics.specs.Tree.{Tree, Groups, Members, feature, no_groups, group, no_members, member, top_name, names_of, names_of_groups, names_of_members}
+use Rattle.uvl_semantics.specs.Tree.{Tree, feature, top_name, names_of}
 use Rattle.uvl_semantics.proofs.Membership.{marked_within, all_have-same, member_of_all}
 use Rattle.uvl_semantics.proofs.Sets.{all_hold-same}
+use Rattle.uvl_model.proofs.Amounts.{rules_met}
 use Rattle.uvl_model.proofs.Below.{heads_of_spelled}
 use Rattle.uvl_model.proofs.Fitting.{tree_holds}
 use Rattle.uvl_model.proofs.Marks.{AgreeFrom, marks_agree, given_marks_agree, stand_agree}
+pub use Rattle.uvl_model.proofs.NamesSpelled.{spelled_names}
 use Rattle.uvl_model.proofs.Truths.{rules_told}
-
-mutual
-  -- the rows of a tree have its names
-  names_spelled : (tree : Tree) (parent : Option FeatureNo) (n : ℕ) → map (λ (row : FeatureRow). row.name) (feature_rows parent n tree) ≡ names_of tree
-  names_spelled (feature head below) parent n = ap (λ names. head.name ∷ names) (groups_spelled below (numbered n) (n + 1))
-
-  groups_spelled : (groups : Groups) (parent : FeatureNo) (n : ℕ) → map (λ (row : FeatureRow). row.name) (feature_rows_of_groups parent n groups) ≡ names_of_groups groups
-  groups_spelled no_groups parent n = refl
-  groups_spelled (group lo hi members others) parent n =
-      map-append (λ row. row.name) (feature_rows_of_members parent n members) (feature_rows_of_groups parent (n + size_of_members members) others)
-      ∙ rw (members_spelled members parent n, groups_spelled others parent (n + size_of_members members)) refl
-
-  members_spelled : (members : Members) (parent : FeatureNo) (n : ℕ) → map (λ (row : FeatureRow). row.name) (feature_rows_of_members parent n members) ≡ names_of_members members
-  members_spelled no_members parent n = refl
-  members_spelled (member tree others) parent n =
-      map-append (λ row. row.name) (feature_rows (Some parent) n tree) (feature_rows_of_members parent (n + size_of tree) others)
-      ∙ rw (names_spelled tree (Some parent) n, members_spelled others parent (n + size_of tree)) refl
-
--- the names of rows are those of the tree that they spell
-pub spelled_names : (tree : Tree) (rows : Rows) → Spells tree rows → feature_names rows ≡ names_of tree
-spelled_names tree rows spelled = ap (map (λ row. row.name)) spelled.features ∙ names_spelled tree None 0
 
 root_case : (within top marked_ : Bool) (fit absent held : Bool) → top ≡ marked_ → held ≡ (if top then fit else absent) → ((within && top) && fit) ≡ (within && (marked_ && held))
 root_case true true m fit absent held e h = rw (sym e, h) refl
@@ -78,29 +57,40 @@ product_by_tree set tree rows spelled =
     ap (λ b. b && rules_hold rows set) (sym (tree_by_rows (map (has set) (feature_names rows)) set tree rows spelled agree))
 
 -- marks that agree with a set tell whether it is a product
-product_by_marks : (rows : Rows) (marks : List Bool) (set : List (List ℕ)) → IsSound rows → HaveNoComparison rows → AgreeFrom marks set 0 (feature_names rows)
-    → is_product_of rows set ≡ (list_all (has (feature_names rows)) set && rows_hold rows marks)
-product_by_marks rows marks set sound boolean agree =
+product_by_marks : (rows : Rows) (marks : List Bool) (set : List (List ℕ)) → IsSound rows → AgreeFrom marks set 0 (feature_names rows)
+    → is_product_of rows set ≡ (list_all (has (feature_names rows)) set && rows_are_met rows marks)
+product_by_marks rows marks set sound agree =
     product_by_tree set sound.tree rows sound.spelled
     ∙ ap (λ b. b && rules_hold rows set) (tree_by_rows marks set sound.tree rows sound.spelled agree)
-    ∙ grouped _ _ _ _ (rules_told rows marks set sound.rules boolean agree)
+    ∙ grouped _ _ _ _ (rules_met rows sound marks set agree)
   where
     grouped : (within groups rules told : Bool) → told ≡ rules → (within && groups && rules) ≡ (within && (groups && told))
     grouped true groups rules told e = rw e refl
     grouped false groups rules told e = refl
 
+-- the chosen names are those whose marks say so
+chosen_agree : (rows : Rows) (marks : List Bool) → IsSound rows → AgreeFrom marks (chosen_names rows marks) 0 (feature_names rows)
+chosen_agree rows marks sound =
+    marks_agree (feature_names rows) marks (subst AreDistinct (sym (spelled_names sound.tree rows sound.spelled)) sound.within.distinct)
+
 -- the chosen features are a product exactly where the check of the rows says so
-pub product_of_chosen : (rows : Rows) (marks : List Bool) → IsSound rows → HaveNoComparison rows → is_product_of rows (chosen_names rows marks) ≡ rows_hold rows marks
-product_of_chosen rows marks sound boolean =
-    let distinct = subst AreDistinct (sym (spelled_names sound.tree rows sound.spelled)) sound.within.distinct in
-    let agree = marks_agree (feature_names rows) marks distinct in
-    product_by_marks rows marks (chosen_names rows marks) sound boolean agree ∙ rw (marked_within (feature_names rows) marks) refl
+pub product_of_chosen : (rows : Rows) (marks : List Bool) → IsSound rows → is_product_of rows (chosen_names rows marks) ≡ rows_are_met rows marks
+product_of_chosen rows marks sound =
+    product_by_marks rows marks (chosen_names rows marks) sound (chosen_agree rows marks sound) ∙ rw (marked_within (feature_names rows) marks) refl
 
 -- and so is each set that the marks stand for
-pub product_of_set : (rows : Rows) (marks : List Bool) (set : List (List ℕ)) → IsSound rows → HaveNoComparison rows → StandFor (feature_names rows) marks set
-    → is_product_of rows set ≡ rows_hold rows marks
-product_of_set rows marks set sound boolean stand =
-    product_by_marks rows marks set sound boolean (stand_agree (feature_names rows) marks set stand) ∙ rw (stand.named) refl
+pub product_of_set : (rows : Rows) (marks : List Bool) (set : List (List ℕ)) → IsSound rows → StandFor (feature_names rows) marks set
+    → is_product_of rows set ≡ rows_are_met rows marks
+product_of_set rows marks set sound stand =
+    product_by_marks rows marks set sound (stand_agree (feature_names rows) marks set stand) ∙ rw (stand.named) refl
+
+-- the check without numbers is the same where no rule compares
+pub product_of_boolean : (rows : Rows) (marks : List Bool) → IsSound rows → HaveNoComparison rows → is_product_of rows (chosen_names rows marks) ≡ rows_hold rows marks
+product_of_boolean rows marks sound boolean =
+    let agree = chosen_agree rows marks sound in
+    product_of_chosen rows marks sound
+    ∙ ap (λ b. groups_hold rows marks && b)
+    (rules_met rows sound marks (chosen_names rows marks) agree ∙ sym (rules_told rows marks (chosen_names rows marks) sound.rules boolean agree))
 
 -- sets with the same members are products alike
 same_products : (rows : Rows) → IsTestOfSets (is_product_of rows)

@@ -6,7 +6,7 @@ use Rattle.uvl_model.specs.Rows.{Rows}
 use Rattle.uvl_model.specs.Sound.{IsSound}
 use Rattle.uvl_model.specs.Spelling.{size_of}
 use Rattle.uvl_semantics.specs.Tree.{Tree, feature}
-use Rattle.uvl_model.proofs.Families.{spelled_names}
+use Rattle.uvl_model.proofs.NamesSpelled.{spelled_names}
 
 -- as many as the tree
 size_is : (rows : Rows) (sound : IsSound rows) → size_of sound.tree ≡ length rows.features

@@ -26,7 +26,7 @@ use Rattle.uvl_model.proofs.Marks.{AgreeFrom, agree_at}
 
 module _ (rows : Rows) (marks : List Bool) (set : List (List ℕ)) (agree : AgreeFrom marks set 0 (feature_names rows)) where
   -- the mark of a feature says whether its name is in the set
-  feature_told : (f : FeatureNo) → IsThere rows f → is_marked marks f ≡ has set (name_of (feature_names rows) f)
+  pub feature_told : (f : FeatureNo) → IsThere rows f → is_marked marks f ≡ has set (name_of (feature_names rows) f)
   feature_told f there =
       let within : f.0 < length (feature_names rows) = rw (length-map rows.features (λ row. row.name)) there in
       ap (λ (n : ℕ). is_marked marks (numbered n)) (sym (zero-add f.0)) ∙ agree_at marks set (feature_names rows) 0 agree f.0 within

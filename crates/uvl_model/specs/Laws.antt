@@ -1,13 +1,16 @@
 -- What holds of the products and the rows of all trees.
-use Rattle.std.specs.Prelude.{◌≡◌, ◌≤◌, ℕ, Bool, List, IsTrue}
+use Rattle.std.specs.Prelude.{◌≡◌, ◌≤◌, ℕ, Bool, List, IsTrue, map}
 use Rattle.std.specs.List.{All}
 use Rattle.uvl_base.specs.Limits.{most_rule_nodes, most_right_operands}
+use Rattle.uvl_model.specs.declared.rows.FeatureNo.{FeatureNo}
 use Rattle.uvl_model.specs.declared.rule.Rule.{Rule}
+use Rattle.uvl_model.specs.Amounts.{rows_are_met, rows_below}
 use Rattle.uvl_model.specs.Check.{rows_hold}
 use Rattle.uvl_model.specs.Comparisons.{HaveNoComparison, has_no_comparison}
 use Rattle.uvl_model.specs.Constraints.{constraints_of}
+use Rattle.uvl_model.specs.Heads.{head_of_row, heads_below_rows}
 use Rattle.uvl_model.specs.Marks.{StandFor}
-use Rattle.uvl_model.specs.Names.{feature_names, chosen_names}
+use Rattle.uvl_model.specs.Names.{feature_names, chosen_names, name_of}
 use Rattle.uvl_model.specs.Products.{Products}
 use Rattle.uvl_model.specs.Rows.{Rows}
 use Rattle.uvl_model.specs.Rules.{IsRule, IsThere, features_of, nodes_of, right_operands}
@@ -35,6 +38,18 @@ abbrev pub RowsCheckProducts : Type 0
 RowsCheckProducts =
     (rows : Rows) (marks : List Bool) → IsSound rows → HaveNoComparison rows →
     (Products rows).contains (chosen_names rows marks) ≡ rows_hold rows marks
+
+-- the marked features of sound rows are a product exactly where the root is marked and each group and each rule is met
+abbrev pub RowsTellProducts : Type 0
+RowsTellProducts =
+    (rows : Rows) (marks : List Bool) → IsSound rows →
+    (Products rows).contains (chosen_names rows marks) ≡ rows_are_met rows marks
+
+-- the features from one of sound rows downwards stand in one run
+abbrev pub RunsAreBelow : Type 0
+RunsAreBelow =
+    (rows : Rows) (top : FeatureNo) → IsSound rows → IsThere rows top →
+    map head_of_row (rows_below rows.features top) ≡ heads_below_rows rows (name_of (feature_names rows) top)
 
 -- the names that marks mark are a product where each set is one for which the marks stand
 abbrev pub MarksGiveProducts : Type 0

@@ -1,3 +1,4 @@
+pub mod Amounts
 pub mod Check
 pub mod Comparisons
 pub mod Constraints

@@ -1,5 +1,5 @@
 //! Laws of the definitions. The functions do nothing: what they ensure is the law.
-ghost use Rattle.uvl_model.specs.Laws.{RowsGiveProducts, RowsGiveNames, RowsCheckProducts, MarksGiveProducts, ProductsAreSets, SmallRulesMayBe};
+ghost use Rattle.uvl_model.specs.Laws.{RowsGiveProducts, RowsGiveNames, RowsCheckProducts, RowsTellProducts, RunsAreBelow, MarksGiveProducts, ProductsAreSets, SmallRulesMayBe};
 
 /// The products of a model's rows are those of each tree that the rows spell, with what their rules
 /// say.
@@ -12,7 +12,18 @@ pub fn rows_give_names()
     ensures { RowsGiveNames }
 {}
 
-/// The check of the rows of a model, group by group and rule by rule, tells its products.
+/// The check of the rows of a model, group by group and rule by rule, tells its products, rules with
+/// numbers among them.
+pub fn rows_tell_products()
+    ensures { RowsTellProducts }
+{}
+
+/// The features from one of a model's downwards stand in one run of its rows.
+pub fn runs_are_below()
+    ensures { RunsAreBelow }
+{}
+
+/// The check of the rows of a model without comparisons tells its products.
 pub fn rows_check_products()
     ensures { RowsCheckProducts }
 {}

@@ -6,13 +6,14 @@ mod check;
 mod laws;
 mod model;
 mod names;
+mod numbers;
 mod rows;
 mod rule;
 mod rules;
 
 pub use laws::{
     marks_give_products, products_are_sets, rows_check_products, rows_give_names,
-    rows_give_products, small_rules_may_be,
+    rows_give_products, rows_tell_products, runs_are_below, small_rules_may_be,
 };
 pub use model::Model;
 pub use names::NameIndex;

@@ -1,7 +1,7 @@
 //! A sound feature model.
-ghost use Rattle.std.specs.Prelude.{◌≡◌, ◌<◌, ◌≤◌, ◌↔◌, ℕ, List, length, slice_get, chars, Contains, is_some, IsSome, IfSome, Some};
+ghost use Rattle.std.specs.Prelude.{◌≡◌, ◌<◌, ◌≤◌, ◌+◌, ◌↔◌, ℕ, List, length, map, slice_get, chars, Contains, is_some, IsSome, IfSome, Some};
 
-use crate::check::rows_hold;
+use crate::check::{rows_hold, run_length};
 use crate::{FeatureNo, FeatureRow, GroupRow, NameIndex, Rule};
 use sqlite_items::Items;
 
@@ -39,9 +39,11 @@ impl std::marker::Model for Model {
 
 impl Model {
     ghost use Rattle.uvl_base.specs.Limits.{most_features};
-    ghost use Rattle.uvl_model.specs.Comparisons.{HaveNoComparison};
+    ghost use Rattle.uvl_model.specs.Amounts.{rows_below};
+    ghost use Rattle.uvl_model.specs.Heads.{head_of_row, heads_below_rows};
     ghost use Rattle.uvl_model.specs.Marks.{StandFor};
-    ghost use Rattle.uvl_model.specs.Names.{feature_names, chosen_names};
+    ghost use Rattle.uvl_model.specs.Names.{feature_names, chosen_names, name_of};
+    ghost use Rattle.uvl_model.specs.Rules.{IsThere};
     ghost use Rattle.uvl_semantics.specs.Product.{has};
     ghost use Rattle.uvl_model.specs.Products.{Products};
     ghost use Rattle.uvl_model.specs.Sound.{IsSound};
@@ -76,6 +78,19 @@ impl Model {
         self.features.as_slice()
     }
 
+    /// The features from one downwards, in document order: it and all below it.
+    pub fn below(&self, top: FeatureNo) -> &[FeatureRow]
+        requires { IsThere self.now top }
+        ensures run { result.now ≡ rows_below self.now.features top }
+        ensures heads { map head_of_row result.now ≡ heads_below_rows self.now (name_of (feature_names self.now) top) }
+        ensures within { top.0 + length result.now ≤ length self.now.features }
+        ensures few { length self.now.features ≤ most_features }
+    {
+        let rows = &self.features.as_slice()[top.0 as usize..];
+        let run = run_length(&rows[1..], top);
+        &rows[..1 + run]
+    }
+
     /// The groups: a feature's own in the order in which they are written, each in front of those of
     /// its members' trees.
     pub fn groups(&self) -> &[GroupRow]
@@ -106,15 +121,14 @@ impl Model {
 
     /// Whether the chosen features are a product, by one mark for each feature: the root is chosen,
     /// and each group and each rule holds. It takes no memory, and time linear in the features and
-    /// in the nodes of the rules. No rule may have a comparison.
+    /// in the nodes of the rules and in the features under their sums.
     pub fn is_product(&self, chosen: &[bool]) -> bool
         requires each_feature { length chosen.now ≡ length self.now.features }
-        requires boolean { HaveNoComparison self.now }
         ensures product { result ≡ (Products self.now).contains (chosen_names self.now chosen.now) }
         ensures each_set { (set : List (List ℕ)) → StandFor (Products self.now).names chosen.now set →
             result ≡ (Products self.now).contains set }
         ensures sound { IsSound self.now }
     {
-        rows_hold(self.groups.as_slice(), self.rules.as_slice(), chosen)
+        rows_hold(self, chosen)
     }
 }

@@ -1,4 +1,4 @@
--- The definitions on small models: a car with prices, and a product of numbers at its bound.
+-- The definitions on small models: a car with prices, products of numbers at their bounds, and the sum of an imported file.
 use Rattle.std.proofs.Common.{◌≡◌, ℕ, pos, true, false, List, [], ◌∷◌, refl}
 use Rattle.std.specs.Prelude.{codes}
 use Rattle.uvl_ast.specs.declared.feature.Attribute.{Attribute, roll-Attribute}
@@ -58,3 +58,37 @@ the_product_is_below = refl
 
 the_product_is_exact : is_product single (bounded 1999997999999) (codes "A" ∷ []) ≡ false
 the_product_is_exact = refl
+
+-- one whose attribute p is the greatest number
+abbrev greatest : Tree
+greatest = feature (record { name = codes "A"; attributes = numbered (codes "p") 999999999999999999 ∷ [] }) no_groups
+
+-- 999999.999999 * A.p is at most the greatest number
+abbrev far_below : List Constraint
+far_below =
+    comparison at_most (times (literal (pos 999999999999)) (attribute (codes "A") (codes "p"))) (literal (pos 999999999999999999)) ∷ []
+
+no_digit_is_lost : is_product greatest far_below (codes "A" ∷ []) ≡ false
+no_digit_is_lost = refl
+
+-- a radio with a receiver, as an imported file has it
+abbrev radio : Members
+radio =
+    member (feature (record { name = codes "r.Radio"; attributes = [] }) (group 0 1 (leaf (codes "r.DAB") (numbered (codes "Price") 50000000 ∷ []) no_members) no_groups))
+    no_members
+
+-- it is placed in a car with seats
+abbrev car_with_radio : Tree
+car_with_radio =
+    feature (record { name = codes "Car"; attributes = [] })
+    (group 1 1 (leaf (codes "Seats") (numbered (codes "Price") 100000000 ∷ []) no_members) (group 0 1 radio no_groups))
+
+-- the placed file's sum is at most 40
+abbrev rules_of_radio : List Constraint
+rules_of_radio = comparison at_most (total (codes "r.Radio") (codes "Price")) (literal (pos 40000000)) ∷ []
+
+seats_are_not_counted : is_product car_with_radio rules_of_radio (codes "Car" ∷ codes "Seats" ∷ codes "r.Radio" ∷ []) ≡ true
+seats_are_not_counted = refl
+
+the_receiver_costs_too_much : is_product car_with_radio rules_of_radio (codes "Car" ∷ codes "Seats" ∷ codes "r.Radio" ∷ codes "r.DAB" ∷ []) ≡ false
+the_receiver_costs_too_much = refl
