@@ -1,4 +1,5 @@
 pub mod ResultLemmas
+pub mod PlaceLemmas
 pub mod RightLemmas
 pub mod HeldLemmas
 pub mod RoomLemmas

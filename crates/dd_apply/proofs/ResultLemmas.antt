@@ -1,8 +1,9 @@
 -- Equal questions are one question, and what is found in a cache under a question answers it.
-use Rattle.std.proofs.Common.{◌≡◌, ◌⊎◌, ℕ, Bool, true, false, List, Option, Some, None, IfSome, Result, Ok, Err, ap, refl, sym, subst, ◌∙◌, inl, inr, ◌&&◌, nat_eq}
+use Rattle.std.proofs.Common.{◌≡◌, ◌⊎◌, ◌++◌, ℕ, Bool, true, false, List, Option, Some, None, IfSome, Result, Ok, Err, ap, refl, sym, subst, ◌∙◌, inl, inr, ◌&&◌, nat_eq}
 use Rattle.std.specs.List.{Contains}
 use Rattle.std.specs.Map.{lookup}
 use Rattle.std.specs.Result.{OnOk, OnErr}
+use Rattle.std.proofs.lemmas.List.Elements.{Contains-append_left, Contains-append_right, Contains-append_cases}
 use Rattle.std.proofs.lemmas.Bool.{eqb-true, true≢false}
 use Rattle.lru.specs.LruCache.{LruCache, lru_cache, put_entries}
 use Rattle.lru.proofs.CallerLemmas.{Contains-lookup, Contains-put_entries}
@@ -52,3 +53,32 @@ pub kept-or-not : {E : Type 0} (old new : LruCache Question NodeNo) (q : Questio
     → (p : Question × NodeNo) → Contains new.entries p → Contains old.entries p ⊎ (p ≡ (q, r))
 kept-or-not old new q r (Ok o) is not p has = kept old q r p (subst (λ (c : LruCache Question NodeNo). Contains c.entries p) is has)
 kept-or-not old new q r (Err e) is not p has = inl (subst (λ (c : LruCache Question NodeNo). Contains c.entries p) not has)
+
+-- what is kept in a list is kept behind other pairs
+pub recalled-behind : (ps es : List (Question × NodeNo)) (q : Question) (o : Option NodeNo) → IfSome o (λ r. Contains es (q, r)) → IfSome o (λ r. Contains (ps ++ es) (q, r))
+recalled-behind ps es q None has = tt
+recalled-behind ps es q (Some r) has = Contains-append_right ps es (q, r) has
+
+pub kept-behind : (ps old new : List (Question × NodeNo)) (x : Question × NodeNo)
+    → ((p : Question × NodeNo) → Contains new p → Contains old p ⊎ (p ≡ x)) → (p : Question × NodeNo) → Contains (ps ++ new) p → Contains (ps ++ old) p ⊎ (p ≡ x)
+kept-behind ps old new x each p has = elim (Contains-append_cases ps new p has) [
+  | inl front ↦ inl (Contains-append_left ps old p front)
+  | inr back ↦ elim (each p back) [ inl was ↦ inl (Contains-append_right ps old p was) | inr is ↦ inr is ]
+]
+
+pub kept-front : (old new es : List (Question × NodeNo)) (x : Question × NodeNo)
+    → ((p : Question × NodeNo) → Contains new p → Contains old p ⊎ (p ≡ x)) → (p : Question × NodeNo) → Contains (new ++ es) p → Contains (old ++ es) p ⊎ (p ≡ x)
+kept-front old new es x each p has = elim (Contains-append_cases new es p has) [
+  | inl front ↦ elim (each p front) [ inl was ↦ inl (Contains-append_left old es p was) | inr is ↦ inr is ]
+  | inr back ↦ inl (Contains-append_right old es p back)
+]
+
+-- what is kept after one was put in front and the one that stood there into the list was kept before, or is the new one
+pub kept-both : (old new es last : List (Question × NodeNo)) (x displaced : Question × NodeNo)
+    → ((p : Question × NodeNo) → Contains new p → Contains old p ⊎ (p ≡ x)) → Contains old displaced
+    → ((p : Question × NodeNo) → Contains last p → Contains (new ++ es) p ⊎ (p ≡ displaced))
+    → (p : Question × NodeNo) → Contains last p → Contains (old ++ es) p ⊎ (p ≡ x)
+kept-both old new es last x displaced each was listed p has = elim (listed p has) [
+  | inl before ↦ kept-front old new es x each p before
+  | inr is ↦ inl (subst (λ (q : Question × NodeNo). Contains (old ++ es) q) (sym is) (Contains-append_left old es displaced was))
+]

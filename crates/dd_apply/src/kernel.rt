@@ -59,7 +59,7 @@ impl Kernel {
         let store = Store::new(alloc, budget)?;
         Ok(Kernel {
             store,
-            results: Results::new(),
+            results: Results::new(alloc),
             ends: Vec::new(alloc),
         })
     }

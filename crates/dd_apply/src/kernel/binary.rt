@@ -1,21 +1,23 @@
 //! The binary operations: one recursion over the numbers of nodes, for all operations.
-ghost use Rattle.std.specs.Prelude.{◌≡◌, ◌⊎◌, ◌+◌, ◌-◌, ◌*◌, ◌≤◌, ℕ, length, min, IfOk, IfErr, OnErr, IfSome, IfNone};
+ghost use Rattle.std.specs.Prelude.{◌≡◌, ◌⊎◌, ◌+◌, ◌-◌, ◌*◌, ◌≤◌, ℕ, length, min, Bool};
+ghost use Rattle.std.specs.Prelude.{IfOk, IfErr, OnErr, IfSome, IfNone};
 ghost use Rattle.dd_apply.specs.Right.{IsRight, IsAsked};
 ghost use Rattle.dd_store.specs.Size.{Function};
 ghost use Rattle.dd_store.specs.Table.{Table as OneTable};
 
 use crate::kernel::Kernel;
+use crate::kernel::ite::settle_choice;
 use crate::operation::Operation;
 use crate::question::Question;
-use dd_store::{Handle, NodeNo, Refusal, Var};
+use dd_store::{Handle, NodeNo, OutOfMemory, Refusal, Var};
 use std::alloc::Global;
 
 impl Kernel {
-    ghost use Rattle.dd_store.specs.Changes.{Keeps};
+    ghost use Rattle.dd_store.specs.Changes.{Keeps, Grows};
     ghost use Rattle.dd_store.specs.Exhausted.{value_at};
     ghost use Rattle.dd_store.specs.Follow.{IsThere};
     ghost use Rattle.dd_store.specs.Handles.{KeepsHandles, GainsHandle};
-    ghost use Rattle.dd_store.specs.Table.{IsLive, IsVariable, IsAbove, row_of, top_of};
+    ghost use Rattle.dd_store.specs.Table.{IsLive, IsVariable, IsAbove, row_of, top_of, value_of};
     ghost use Rattle.dd_apply.specs.Held.{IsHeld, IsCauseWithin, HasBoth, Trades, LosesBoth};
     ghost use Rattle.dd_apply.specs.Made.{StaysUnlessFull};
     ghost use Rattle.dd_apply.specs.Split.{fork};
@@ -45,7 +47,7 @@ impl Kernel {
     {
         let _order = self.order();
         if let Some(node) = self.known(operation, a, b) {
-            return Ok(self.hold(node)?);
+            return Ok(self.hold_known(question_of(operation, a, b), node)?);
         }
         let var = self.tested(self.higher(a, b));
         let (low_a, high_a) = self.past(var, a);
@@ -84,6 +86,25 @@ impl Kernel {
         } else {
             None
         }
+    }
+
+    /// A handle on the answer to a question, of which the cache learns that it was of use.
+    pub(crate) fn hold_known(
+        &mut self,
+        question: Question,
+        node: NodeNo,
+    ) -> Result<Handle, OutOfMemory>
+        requires { IsThere (row_of self.old) node.0 }
+        ensures place { IfOk result (λ h. h ≡ node.0) }
+        ensures value { IfOk result (λ h. (a : ℕ → Bool) → value_of self.new h a ≡ value_of self.old node.0 a) }
+        ensures gained { IfOk result (GainsHandle self.old self.new) }
+        ensures refused { OnErr result (KeepsHandles self.old self.new) }
+        ensures grows { Grows self.old self.new 0 }
+    {
+        if is_asked(question) && self.is_worth(question) {
+            self.results.note(question);
+        }
+        self.hold(node)
     }
 
     /// Whether an operation may meet the nodes of a question more than once.
@@ -151,6 +172,15 @@ impl Kernel {
             let node = self.node_of(handle);
             self.keep(alloc, question, node);
         }
+    }
+}
+
+/// Whether the cache is asked: the question isn't answered for every table.
+fn is_asked(question: Question) -> bool {
+    match question {
+        Question::Binary(operation, a, b) => operation.settle(a, b).is_none(),
+        Question::Ite(c, a, b) => settle_choice(c, a, b).is_none(),
+        Question::Implies(_, _) => false,
     }
 }
 

@@ -43,7 +43,7 @@ impl Kernel {
     {
         let _order = self.order();
         if let Some(node) = self.known_choice(c, a, b) {
-            return Ok(self.hold(node)?);
+            return Ok(self.hold_known(Question::Ite(c, a, b), node)?);
         }
         let lower = self.higher(a, b);
         let var = self.tested(self.higher(c, lower));
@@ -77,7 +77,7 @@ impl Kernel {
 }
 
 /// What is chosen of two nodes by a third, where that is one of them for every table.
-fn settle_choice(c: NodeNo, a: NodeNo, b: NodeNo) -> Option<NodeNo>
+pub(crate) fn settle_choice(c: NodeNo, a: NodeNo, b: NodeNo) -> Option<NodeNo>
     ensures settled { IfSome result (λ r. SettlesChoice c.0 a.0 b.0 r.0) }
     ensures node { IfNone result (2 ≤ c.0) }
 {

@@ -28,7 +28,7 @@ more : (t u : ℕ) → t < u → 2 * (t + 1) + 1 ≤ 2 * (u + 1)
 more t u less = omega arith
 
 pub returns-in-Some-clause-value : goal.returns-in-Some-clause-value
-returns-in-Some-clause-value t c = (λ j a. c.in_ok-hold.ensures.value a j) ∙ c.in-Some.ensures.right.4
+returns-in-Some-clause-value t c = (λ j a. c.in_ok-hold_known.ensures.value a j) ∙ c.in-Some.ensures.right.4
 
 pub higher-lower-requires-clause-a_there : goal.higher-lower-requires-clause-a_there
 higher-lower-requires-clause-a_there t c =

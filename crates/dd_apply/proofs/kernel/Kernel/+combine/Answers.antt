@@ -21,7 +21,7 @@ use Rattle.dd_apply.proofs.CombineLemmas.{levels, one-node, free, held-halves, f
 use Rattle.dd_apply.proofs.kernel.Kernel.+combine.Goals as goal
 
 pub returns-in-Some-clause-value : goal.returns-in-Some-clause-value
-returns-in-Some-clause-value t c = (λ j a. c.in_ok-hold.ensures.value a j) ∙ c.in-Some.ensures.right.3
+returns-in-Some-clause-value t c = (λ j a. c.in_ok-hold_known.ensures.value a j) ∙ c.in-Some.ensures.right.3
 
 pub higher-requires-clause-a_there : goal.higher-requires-clause-a_there
 higher-requires-clause-a_there t c = held-there c.args.self.now c.order-order.ensures.sound c.args.a.0 c.requires.a_held
@@ -153,7 +153,7 @@ join-requires-clause-asked t c =
     let keeps' = c.in-Ok.ensures.keeps in
     let gain' = c.in-Ok.ensures.gained in
     let is_high = c.in-Ok.ensures.value ∙ after in
-    c.question_of.ensures.asked u (fork v (value_at u c.in_ok-low.low) (value_at u c.in-Ok.high))
+    c.question_of-in-Ok.ensures.asked u (fork v (value_at u c.in_ok-low.low) (value_at u c.in-Ok.high))
     (asked-after s u op c.args.a.0 c.args.b.0 (fork v (value_at u c.in_ok-low.low) (value_at u c.in-Ok.high)) sound
     (keeps_then keeps keeps' (λ n first end. live_gained gain n first)) (λ n first. live_gained gain' n (live_gained gain n first)) c.requires.a_held c.requires.b_held
     (fork-is s m u f v c.in_ok-low.low c.in-Ok.high sound inside free' keeps gain is_low keeps' gain' is_high))
