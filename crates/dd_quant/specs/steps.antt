@@ -1,0 +1,4 @@
+-- What private functions do, in their own terms.
+pub mod Marked
+pub mod Given
+pub mod Walk

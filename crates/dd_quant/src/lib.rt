@@ -1,0 +1,14 @@
+//! Questions about the value of a handle: with a variable fixed, without some variables, on which it depends, whether
+//! something makes it true, and what it leaves open.
+#![tactic(auto)]
+
+mod given;
+mod literal;
+mod marks;
+mod offer;
+mod possibility;
+
+pub use literal::Literal;
+pub use marks::Marks;
+pub use offer::Offer;
+pub use possibility::{possible, possible_with};
