@@ -1,16 +1,15 @@
 -- Values that are given for variables.
-use Rattle.std.proofs.Common.{◌≡◌, ◌≢◌, ◌⊎◌, ◌↔◌, ◌==◌, ℕ, ◌+◌, ◌<◌, ◌≤◌, Bool, true, false, not, if◌then◌else◌, List, [], ◌∷◌, ◌++◌, length, set, take, replicate, get_or, Option, Some, None, refl, ap, sym, ◌∙◌, subst, inl, inr, arith}
+use Rattle.std.proofs.Common.{◌≡◌, ◌≢◌, ◌↔◌, ◌==◌, ℕ, ◌+◌, ◌<◌, Bool, true, false, not, if◌then◌else◌, List, [], ◌∷◌, ◌++◌, length, set, take, replicate, get_or, Option, Some, None, refl, ap, sym, ◌∙◌, subst, inl, inr, arith}
 use Rattle.std.specs.List.{All}
-use Rattle.std.proofs.lemmas.Bool.{cases_eq, cases_lt, eqb-true, eq-eqb, ne_eqb, true≢false}
-use Rattle.std.proofs.lemmas.List.{get_or_past, get_or-set_same, get_or-set_other, get_or-replicate, length-replicate, length-set, take_more, take-take, length-take-le, get_or-take}
-use Rattle.std.proofs.lemmas.List.Elements.{All-nil, All-cons, All-head, All-tail, All-push, All-get_or, All-take, All-more, All-weaker}
-use Rattle.dd_store.specs.declared.row.Var.{Var}
+use Rattle.std.proofs.lemmas.Bool.{cases_eq, cases_lt, eqb-true, true≢false}
+use Rattle.std.proofs.lemmas.List.{get_or_past, get_or-set_same, get_or-set_other, get_or-replicate, length-replicate, take_more, take-take, length-take-le, get_or-take}
+use Rattle.std.proofs.lemmas.List.Elements.{All-nil, All-get_or, All-take, All-more, All-weaker}
 use Rattle.dd_store.specs.Follow.{with_value}
 use Rattle.dd_store.specs.Order.{level_in}
 use Rattle.dd_store.specs.Table.{Table, IsSound}
 use Rattle.dd_quant.specs.declared.literal.Literal.{Literal}
 use Rattle.dd_quant.specs.Possible.{Agrees, AreLiterals}
-use Rattle.dd_quant.specs.steps.Given.{given_for, Allows, Meets, AreGiven, IsContradictory}
+use Rattle.dd_quant.specs.steps.Given.{given_for, Allows, Meets, IsContradictory}
 
 -- where nothing is given
 pub given-none : (n v : ℕ) → given_for (replicate n None) v ≡ None

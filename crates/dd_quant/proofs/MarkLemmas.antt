@@ -1,9 +1,8 @@
 -- Marks of nodes, in turns.
-use Rattle.std.proofs.Common.{◌≡◌, ◌≢◌, ℕ, zero, suc, ◌+◌, ◌-◌, ◌<◌, ◌≤◌, Bool, true, false, if◌then◌else◌, ◌==◌, List, [], ◌∷◌, ◌++◌, length, map, take, replicate, set, get_or, Option, Some, None, refl, ap, sym, ◌∙◌, subst, inl, inr, arith}
-use Rattle.std.specs.List.{All}
+use Rattle.std.proofs.Common.{◌≡◌, ◌≢◌, ℕ, ◌+◌, ◌-◌, ◌<◌, ◌≤◌, Bool, true, false, if◌then◌else◌, ◌==◌, List, ◌++◌, length, take, replicate, set, get_or, Some, None, refl, ap, sym, ◌∙◌, inl, inr, arith}
 use Rattle.std.proofs.lemmas.Bool.{cases_lt, eq-eqb, ne_eqb}
 use Rattle.std.proofs.lemmas.List.{get_or_past, get_or-map, length-map, length-set, length-append, length-replicate, take_all, get_or-set_same, get_or-set_other, get_or_append_left, get_or-append_right, get_or-replicate}
-use Rattle.std.proofs.lemmas.List.Elements.{All-get_or, All-append, All-replicate, All-set}
+use Rattle.std.proofs.lemmas.List.Elements.{All-get_or}
 use Rattle.dd_quant.specs.declared.marks.Mark.{Mark}
 use Rattle.dd_quant.specs.steps.Marked.{said_in, marked_in, found_of, AreMarks}
 

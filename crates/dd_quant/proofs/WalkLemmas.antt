@@ -1,11 +1,11 @@
 -- One step of a walk: whether a node can be true, by its ends.
-use Rattle.std.proofs.Common.{◌≡◌, ◌≢◌, ◌⊎◌, ◌↔◌, ◌==◌, ℕ, zero, suc, ◌-◌, ◌<◌, ◌≤◌, Bool, true, false, not, if◌then◌else◌, IsTrue, IfOk, OnOk, Result, Ok, Err, List, length, Option, Some, None, refl, ap, sym, ◌∙◌, subst, inl, inr, arith}
+use Rattle.std.proofs.Common.{◌≡◌, ◌≢◌, ◌⊎◌, ◌↔◌, ◌==◌, ℕ, ◌-◌, ◌<◌, Bool, true, false, not, if◌then◌else◌, IsTrue, IfOk, OnOk, Result, Ok, Err, List, length, Option, Some, None, refl, ap, sym, ◌∙◌, subst, inl, inr, arith}
 use Rattle.std.proofs.lemmas.Bool.{cases_eq, eq-eqb, ne_eqb, true≢false}
 use Rattle.dd_store.specs.declared.row.Row.{Row}
 use Rattle.dd_store.specs.Follow.{IsThere, with_value}
 use Rattle.dd_store.specs.Order.{level_of_row}
 use Rattle.dd_store.specs.Exhausted.{value_at}
-use Rattle.dd_store.specs.Table.{Table, row_of, row_with, value_of, top_of, level_of, IsSound, IsAbove, HasEnds}
+use Rattle.dd_store.specs.Table.{Table, row_of, value_of, top_of, level_of, IsSound, IsAbove, HasEnds}
 use Rattle.dd_store.proofs.ReadLemmas.{none-constant, value_of-none}
 use Rattle.dd_store.proofs.TopLemmas.{follow-above}
 use Rattle.dd_quant.specs.declared.literal.Literal.{Literal}

@@ -1,5 +1,5 @@
 -- What a function leaves open: for each variable, which values it has where the function is true.
-use Rattle.std.specs.Prelude.{◌≡◌, ◌↔◌, ℕ, ◌<◌, Bool, true, false, if◌then◌else◌, IsTrue, List, ◌∷◌, length, slice_index_or}
+use Rattle.std.specs.Prelude.{◌≡◌, ◌↔◌, ℕ, ◌<◌, Bool, false, if◌then◌else◌, IsTrue, List, ◌∷◌, length, slice_index_or}
 use Rattle.dd_store.specs.declared.row.Var.{Var}
 use Rattle.dd_store.specs.Size.{Function}
 use Rattle.dd_quant.specs.declared.literal.Literal.{Literal}

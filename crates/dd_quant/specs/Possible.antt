@@ -1,7 +1,6 @@
 -- Which assignments make a function true, where some variables have values that are given.
-use Rattle.std.specs.Prelude.{◌≡◌, ℕ, Bool, true, List, [], ◌∷◌}
+use Rattle.std.specs.Prelude.{◌≡◌, ℕ, Bool, true, List}
 use Rattle.std.specs.List.{All}
-use Rattle.dd_store.specs.declared.row.Var.{Var}
 use Rattle.dd_store.specs.Size.{Function}
 use Rattle.dd_store.specs.Table.{Table, IsVariable}
 use Rattle.dd_quant.specs.declared.literal.Literal.{Literal}

@@ -1,5 +1,5 @@
 -- The variables on which a function depends.
-use Rattle.std.specs.Prelude.{◌≡◌, ◌≢◌, ℕ, Bool, true, false, List, filter}
+use Rattle.std.specs.Prelude.{◌≢◌, ℕ, Bool, true, false, List, filter}
 use Rattle.dd_store.specs.declared.row.Var.{Var}
 use Rattle.dd_store.specs.Size.{Function, fixed, depends_on}
 

@@ -2,3 +2,4 @@
 pub mod Marked
 pub mod Given
 pub mod Walk
+pub mod Noted

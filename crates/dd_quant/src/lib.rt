@@ -2,12 +2,16 @@
 //! something makes it true, and what it leaves open.
 #![tactic(auto)]
 
+mod choices;
 mod given;
 mod literal;
 mod marks;
+mod noted;
 mod offer;
 mod possibility;
+mod walk;
 
+pub use choices::{offers, offers_with};
 pub use literal::Literal;
 pub use marks::Marks;
 pub use offer::Offer;

@@ -7,9 +7,13 @@ use Rattle.dd_quant.specs.Possible.{Agrees}
 abbrev pub given_for : List (Option Bool) → ℕ → Option Bool
 given_for values v = slice_index_or values v None
 
+-- no other value is given
+abbrev pub CanTake : Option Bool → Bool → Type 0
+CanTake given b = (c : Bool) → given ≡ Some c → b ≡ c
+
 -- no other value is given for the variable
 abbrev pub Allows : List (Option Bool) → ℕ → Bool → Type 0
-Allows values v b = (c : Bool) → given_for values v ≡ Some c → b ≡ c
+Allows values v b = CanTake (given_for values v) b
 
 -- the assignment has the values that are given
 abbrev pub Meets : List (Option Bool) → (ℕ → Bool) → Type 0

@@ -1,5 +1,5 @@
 -- What is marked of nodes, in turns: what was marked in an earlier turn counts no more.
-use Rattle.std.specs.Prelude.{ℕ, ◌<◌, ◌≤◌, Bool, false, ◌==◌, if◌then◌else◌, List, map, Option, Some, None, slice_index_or}
+use Rattle.std.specs.Prelude.{ℕ, ◌<◌, ◌≤◌, Bool, ◌==◌, if◌then◌else◌, List, map, Option, Some, None, slice_index_or}
 use Rattle.std.specs.List.{All}
 use Rattle.dd_quant.specs.declared.marks.Mark.{Mark}
 

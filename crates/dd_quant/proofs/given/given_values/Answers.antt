@@ -1,11 +1,11 @@
 -- One literal more.
-use Rattle.std.proofs.Common.{◌≡◌, ◌≢◌, ◌↔◌, ◌∙◌, ℕ, ◌<◌, Bool, true, false, not, List, length, get_or, take, Option, Some, None, refl, ap, sym, subst, arith}
+use Rattle.std.proofs.Common.{◌↔◌, ◌∙◌, ◌<◌, false, List, length, get_or, Some, None, sym, subst, arith}
 use Rattle.std.proofs.lemmas.Bool.{true≢false}
 use Rattle.std.proofs.lemmas.List.{get_or_default, get_or_read, length-set, take_all}
 use Rattle.std.proofs.lemmas.List.Elements.{All-get_or}
 use Rattle.dd_quant.specs.declared.literal.Literal.{Literal}
 use Rattle.dd_quant.specs.Possible.{Agrees}
-use Rattle.dd_quant.specs.steps.Given.{given_for, Meets}
+use Rattle.dd_quant.specs.steps.Given.{Meets}
 use Rattle.dd_quant.proofs.GivenLemmas.{given-more, given-against}
 use Rattle.dd_quant.proofs.given.given_values.Goals as goal
 

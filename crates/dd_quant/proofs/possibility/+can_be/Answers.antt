@@ -1,5 +1,5 @@
 -- A node can be true where one of its open ends can.
-use Rattle.std.proofs.Common.{◌≡◌, ◌==◌, Bool, arith}
+use Rattle.std.proofs.Common.{◌≡◌, ◌==◌}
 use Rattle.dd_quant.specs.steps.Walk.{CanBe}
 use Rattle.dd_quant.proofs.WalkLemmas.{constant-can-be, decided-low, decided-high, told-value, told-found}
 use Rattle.dd_quant.proofs.possibility.+can_be.Goals as goal
