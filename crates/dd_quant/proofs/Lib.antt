@@ -1,0 +1,6 @@
+pub mod MarkLemmas
+pub mod GivenLemmas
+pub mod WalkLemmas
+pub mod NotedLemmas
+pub mod StepLemmas
+pub mod SweepLemmas

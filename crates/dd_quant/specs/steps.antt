@@ -1,0 +1,5 @@
+-- What private functions do, in their own terms.
+pub mod Marked
+pub mod Given
+pub mod Walk
+pub mod Noted
