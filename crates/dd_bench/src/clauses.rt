@@ -8,8 +8,9 @@ use dd_apply::Kernel;
 use dd_store::{Handle, Refusal};
 use std::alloc::Global;
 
-/// A table that holds all clauses over so many variables; for n variables these take 2^(n + 1) - 2 nodes, and the literals
-/// of all but the last take 2 more each. Where `compares`, each clause was asked whether it implies each one.
+/// A table that holds all clauses over so many variables; for n variables these take 2^(n + 1) - 2 nodes, and the
+/// literals of all but the last take 2 more each. Where `compares`, each clause was asked whether it implies each
+/// one.
 pub(crate) fn table_of_clauses(alloc: Global, variables: u32, compares: bool) -> Option<Kernel> {
     let mut kernel = Kernel::new(alloc, 16_777_216).ok()?;
     for _variable in 0..variables {
@@ -21,8 +22,8 @@ pub(crate) fn table_of_clauses(alloc: Global, variables: u32, compares: bool) ->
     Some(kernel)
 }
 
-/// Makes all clauses that a clause becomes by this many variables in front, and compares each with all clauses over so many
-/// variables; with none where these are 0. All stay held, as a handle that is only dropped stays live.
+/// Makes all clauses that a clause becomes by this many variables in front, and compares each with all clauses over
+/// so many variables; with none where these are 0. All stay held, as a handle that is only dropped stays live.
 fn make_all(
     kernel: &mut Kernel,
     alloc: Global,

@@ -4,12 +4,12 @@
 //!     dd_bench hold VARIABLES COLLECTIONS
 //!     dd_bench compare VARIABLES
 //!
-//! `conjoin` conjoins the clauses of a formula. The input has a line for each clause: numbers of variables, from 1 on, with a
-//! minus where the variable is to be no. The number of nodes of the conjunction is printed, and behind how many clauses the
-//! table had been collected; or `refused` where there is none.
+//! `conjoin` conjoins the clauses of a formula. The input has a line for each clause: numbers of variables, from 1
+//! on, with a minus where the variable is to be no. The number of nodes of the conjunction is printed, and behind how
+//! many clauses the table had been collected; or `refused` where there is none.
 //!
-//! `hold` makes all clauses over the variables, and collects so many times while all are held. `compare` asks each of them
-//! whether it implies each one. The number of nodes is printed.
+//! `hold` makes all clauses over the variables, and collects so many times while all are held. `compare` asks each of
+//! them whether it implies each one. The number of nodes is printed.
 #![tactic(auto)]
 
 mod clauses;
@@ -69,8 +69,8 @@ fn nodes_of_table(alloc: Global, variables: u32, compares: bool, collections: u3
     Some(kernel.nodes())
 }
 
-/// How many nodes the conjunction of the clauses in the lines of a text has, where it can be made, and behind how many of
-/// them the table had been collected.
+/// How many nodes the conjunction of the clauses in the lines of a text has, where it can be made, and behind how
+/// many of them the table had been collected.
 fn conjoined(alloc: Global, text: &str, variables: u32, budget: u32) -> Option<(u32, u32)> {
     let mut conjunction = Conjunction::new(alloc, variables, budget)?;
     for line in text.lines() {

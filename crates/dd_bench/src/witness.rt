@@ -7,8 +7,8 @@ use dd_apply::Kernel;
 use dd_store::{NodeNo, Row, Var};
 use std::alloc::Global;
 
-/// Whether the node that is yes where the last variable is has gone since it was last asked for. It is made anew then, and
-/// nobody holds it, so the next collection frees it.
+/// Whether the node that is yes where the last variable is has gone since it was last asked for. It is made anew
+/// then, and nobody holds it, so the next collection frees it.
 pub(crate) fn has_collected(kernel: &mut Kernel, alloc: Global) -> bool
     ensures kept { (n : ℕ) → handles_on kernel.old n ≤ handles_on kernel.new n }
 {

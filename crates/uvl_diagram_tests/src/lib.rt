@@ -1,5 +1,5 @@
-//! Tests of the table of diagrams, its operations and its groups: what they make against plain lists of truth values, full
-//! tables, the limits, and what a call answers where there is memory.
+//! Tests of the table of diagrams, its operations and its groups: what they make against plain lists of truth values,
+//! full tables, the limits, and what a call answers where there is memory.
 #![tactic(auto)]
 
 #[cfg(test)]
