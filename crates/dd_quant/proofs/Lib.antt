@@ -4,3 +4,5 @@ pub mod WalkLemmas
 pub mod NotedLemmas
 pub mod StepLemmas
 pub mod SweepLemmas
+pub mod RestrictLemmas
+pub mod ShortLemmas

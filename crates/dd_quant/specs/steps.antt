@@ -3,3 +3,4 @@ pub mod Marked
 pub mod Given
 pub mod Walk
 pub mod Noted
+pub mod Remembered

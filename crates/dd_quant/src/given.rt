@@ -6,9 +6,10 @@ ghost use Rattle.dd_store.specs.Table.{row_of};
 ghost use Rattle.dd_quant.specs.steps.Given.{AreGiven, IsContradictory};
 ghost use Rattle.dd_quant.specs.steps.Walk.{HasOpenEnds};
 
+use crate::ends::Ends;
 use crate::literal::Literal;
 use dd_apply::Kernel;
-use dd_store::{NodeNo, OutOfMemory, Var};
+use dd_store::{NodeNo, OutOfMemory};
 use std::alloc::Global;
 
 /// The values that the literals give to so many variables, by the variables' numbers; none where two of the literals
@@ -39,14 +40,6 @@ fn contradicts(given: Option<bool>, value: bool) -> bool
     ensures { IsTrue result ↔ (given ≡ Some (not value)) }
 {
     given == Some(!value)
-}
-
-/// The variable that a node tests, with its end for no and its end for yes.
-#[derive(Clone, Copy)]
-pub(crate) struct Ends {
-    pub(crate) var: Var,
-    pub(crate) low: NodeNo,
-    pub(crate) high: NodeNo,
 }
 
 /// The ends of a node; none for a constant. In place of an end for a value that can't be, as the other one is given,

@@ -1,14 +1,17 @@
-//! Questions about the value of a handle: with a variable fixed, without some variables, on which it depends, whether
-//! something makes it true, and what it leaves open.
+//! Questions about the value of a handle: with a variable fixed, whether something makes it true, and what it leaves
+//! open.
 #![tactic(auto)]
 
 mod choices;
+mod ends;
 mod given;
 mod literal;
 mod marks;
+mod memo;
 mod noted;
 mod offer;
 mod possibility;
+mod restriction;
 mod walk;
 
 pub use choices::{offers, offers_with};
@@ -16,3 +19,4 @@ pub use literal::Literal;
 pub use marks::Marks;
 pub use offer::Offer;
 pub use possibility::{possible, possible_with};
+pub use restriction::cofactor;
