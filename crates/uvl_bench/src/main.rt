@@ -2,7 +2,7 @@
 //!
 //!     uvl_bench tokens validate|lex|parse ROUNDS
 //!     uvl_bench products compile|value|rows ROUNDS
-//!     uvl_bench sets load|resolve ROUNDS MAIN
+//!     uvl_bench sets load|lex|resolve ROUNDS MAIN
 //!
 //! The text is the input, and of a set that of the files, of which the main one is at the path MAIN. What was read, made or
 //! found in all rounds is counted, and the count is printed.

@@ -1,5 +1,5 @@
 -- What is known of the files of a set that is accepted.
-use Rattle.std.proofs.Common.{◌≡◌, ℕ, zero, suc, ◌+◌, ◌-◌, ◌<◌, ◌≤◌, ◌⊎◌, inl, inr, List, [], ◌∷◌, ◌++◌, length, map, take, Option, Some, None, Bool, true, false, refl, sym, ap, ◌∙◌, subst, arith}
+use Rattle.std.proofs.Common.{◌≡◌, ℕ, zero, suc, ◌+◌, ◌-◌, ◌≤◌, ◌⊎◌, inl, inr, List, [], ◌∷◌, ◌++◌, length, take, Option, Some, None, Bool, false, refl, sym, ap, ◌∙◌, subst, arith}
 use Rattle.std.specs.Prelude.{slice_get, IfSome}
 use Rattle.std.specs.List.{All, AllByRecursion, list_any}
 use Rattle.std.specs.Option.{option_map, option_or}
@@ -14,7 +14,7 @@ use Rattle.uvl_ast.specs.Members.{EachGroupHasMembers, member_counts}
 use Rattle.uvl_ast.specs.Nesting.{EachValueNests, all_attributes, nesting_of_attribute}
 use Rattle.uvl_ast.specs.Nodes.{nodes_of}
 use Rattle.uvl_ast.specs.Operands.{right_operands}
-use Rattle.uvl_ast.specs.Rules.{EachRule, rules_of}
+use Rattle.uvl_ast.specs.Rules.{rules_of}
 use Rattle.uvl_ast.specs.Texts.{AreQuotable, EachTextIsQuotable, texts_of}
 use Rattle.uvl_base.specs.declared.fault.FaultKind.TheVariants.{BodyOnPlacedImport, DuplicateAttribute, DuplicateFeature, PlacedTwice, TooDeep, TooManyFeatures, TooManyRules, UnknownFeature}
 use Rattle.uvl_base.specs.Limits.{most_nesting, most_right_operands, most_rule_nodes}
@@ -26,7 +26,7 @@ use Rattle.uvl_grammar.proofs.Quoted.{file_quoted}
 use Rattle.uvl_imports.specs.Sets.{IsWritten, IsWhole}
 use Rattle.uvl_imports.specs.declared.file_set.Loaded.{Loaded}
 use Rattle.uvl_placing.specs.Files.{imports_of, placed, tree_of_file, tree_of_root, trees_behind}
-use Rattle.uvl_resolve.specs.steps.Placements.{AreReady, IsReady}
+use Rattle.uvl_resolve.specs.steps.Placements.{AreReady}
 use Rattle.uvl_resolve.specs.steps.Rules.{IsPlain}
 use Rattle.uvl_resolve.proofs.Good.{FineLine, IsClean, IsGood, tree_good}
 use Rattle.uvl_resolve.proofs.Keys.{IsTidy, neither_there, never_when, tidied}
@@ -37,7 +37,7 @@ use Rattle.uvl_scope.specs.Brought.{Placing, brought_by, brought_by_lines, place
 use Rattle.uvl_scope.specs.Faults.{IsAccepted, brought_in, missing_features, fault_in_file, fault_of_file, scope_of, scopes_behind, scopes_of}
 use Rattle.uvl_scope.specs.Firsts.{first_along, when}
 use Rattle.uvl_scope.specs.Keys.{repeated_key}
-use Rattle.uvl_scope.specs.LineFaults.{fault_behind, fault_of_line, finding, has_body, has_known_name, has_too_many_rules, is_placed_again, is_too_deep, is_too_large, places_nothing}
+use Rattle.uvl_scope.specs.LineFaults.{fault_of_line, finding, has_body, has_known_name, has_too_many_rules, is_placed_again, is_too_deep, is_too_large, places_nothing}
 use Rattle.uvl_scope.specs.Lines.{Line, of_feature, of_group, lines_of}
 use Rattle.uvl_scope.specs.RuleFaults.{fault_of_rule, unknown_place}
 use Rattle.uvl_scope.specs.Rules.{has_numbers, references_of}

@@ -1,5 +1,5 @@
 -- What stands below a line is less deep.
-use Rattle.std.proofs.Common.{◌≡◌, ℕ, zero, suc, ◌+◌, ◌<◌, ◌≤◌, max, List, [], ◌∷◌, map, length, get_or, sym, ap, ◌∙◌, arith}
+use Rattle.std.proofs.Common.{◌≡◌, ℕ, zero, suc, ◌+◌, ◌<◌, ◌≤◌, List, [], ◌∷◌, map, length, get_or, ap, arith}
 use Rattle.uvl_ast.specs.Depth.{depth_of, depth_of_group, feature_depth, greatest, group_depth}
 use Rattle.uvl_ast.specs.declared.feature.Feature.{Feature, out-Feature}
 use Rattle.uvl_ast.specs.declared.feature.Feature.TheFolds.{fold_out-Feature, fold_out-Group}

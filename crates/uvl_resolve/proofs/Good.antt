@@ -1,8 +1,8 @@
 -- The placed trees of a set have bounds that a model may have, and attributes that a model may have.
-use Rattle.std.proofs.Common.{◌≡◌, ℕ, ◌+◌, ◌<◌, ◌≤◌, min, List, [], ◌∷◌, ◌++◌, length, map, Option, Some, None, Bool, true, false, cond, refl, sym, ap, ◌∙◌, subst, arith, inl, inr}
-use Rattle.std.specs.Prelude.{slice_get, nat_lt}
+use Rattle.std.proofs.Common.{◌≡◌, ℕ, ◌+◌, ◌≤◌, min, List, [], ◌∷◌, length, map, Option, Some, None, false, refl, sym, ap, ◌∙◌, subst, arith, inl, inr}
+use Rattle.std.specs.Prelude.{slice_get}
 use Rattle.std.specs.List.{All, AllByRecursion, flat_map}
-use Rattle.std.specs.Option.{option_map, option_and_then}
+use Rattle.std.specs.Option.{option_and_then}
 use Rattle.std.proofs.lemmas.Bool.{cases_order, ltb-false}
 use Rattle.std.proofs.lemmas.List.{length-map}
 use Rattle.std.proofs.lemmas.List.Elements.{All-cons, All-nil, All-append}
@@ -19,16 +19,16 @@ use Rattle.uvl_model.specs.declared.rows.FeatureNo.{FeatureNo}
 use Rattle.uvl_model.specs.declared.rows.FeatureRow.{FeatureRow}
 use Rattle.uvl_model.specs.Sound.{AreAttributes, AreBounded, HasBounds, IsBounded, MembersAreBounded}
 use Rattle.uvl_model.specs.Spelling.{feature_rows, feature_rows_of_groups, feature_rows_of_members, numbered, size_of, size_of_members}
-use Rattle.uvl_placing.specs.Bounds.{least_of, most_of, least_written, most_written}
+use Rattle.uvl_placing.specs.Bounds.{least_of, most_of}
 use Rattle.uvl_placing.specs.Names.{dotted, front_of, last_of, target_called}
-use Rattle.uvl_placing.specs.Options.{known, of_both}
+use Rattle.uvl_placing.specs.Options.{known}
 use Rattle.uvl_placing.specs.Trees.{Imports, Branch, branch_of, branch_of_group, branch_of_written, groups_of, members_of, tree_called, tree_of_feature, tree_of_line, tree_of_names, tree_placed, with_root}
 use Rattle.uvl_resolve.proofs.Options.{both_there, known_there, made_there, then_there}
 use Rattle.uvl_resolve.proofs.Parts.{by_parts, front_all, rest_all, parts_all}
 use Rattle.uvl_resolve.proofs.PlacesTree.{root_there}
 use Rattle.uvl_scope.specs.Keys.{repeated_key}
 use Rattle.uvl_scope.specs.LineFaults.{is_bad_range}
-use Rattle.uvl_scope.specs.Lines.{Line, of_feature, of_group, line_of, lines_below, lines_from, lines_of_feature, lines_of_group}
+use Rattle.uvl_scope.specs.Lines.{Line, of_feature, of_group, lines_below, lines_from, lines_of_feature, lines_of_group}
 use Rattle.uvl_semantics.specs.Prefix.{prefixed, prefixed_groups, prefixed_members}
 use Rattle.uvl_semantics.specs.Tree.{Tree, Groups, Members, feature, no_groups, group, no_members, member, member_count}
 

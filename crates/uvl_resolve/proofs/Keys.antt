@@ -1,13 +1,13 @@
 -- Attributes in which no key stands twice have lists of distinct keys.
-use Rattle.std.proofs.Common.{◌≡◌, ℕ, ◌≤◌, ◌-◌, List, [], ◌∷◌, ◌++◌, map, Option, Some, None, Bool, true, false, refl, sym, ap, ◌∙◌, subst, cond}
-use Rattle.std.specs.List.{All, AllByRecursion, flat_map}
+use Rattle.std.proofs.Common.{◌≡◌, ℕ, ◌≤◌, ◌-◌, List, [], ◌∷◌, ◌++◌, map, Option, Some, None, Bool, true, false, refl, sym, ap, ◌∙◌, subst}
+use Rattle.std.specs.List.{AllByRecursion, flat_map}
 use Rattle.std.specs.Option.{option_or}
 use Rattle.std.proofs.lemmas.List.{append_assoc, map-append}
 use Rattle.std.proofs.lemmas.List.Elements.{All-from_recursion}
 use Rattle.uvl_ast.specs.declared.feature.Attribute.{Attribute, out-Attribute, roll-Attribute}
 use Rattle.uvl_ast.specs.declared.feature.AttrValue.{AttrValue, roll-AttrValue}
 use Rattle.uvl_ast.specs.declared.feature.AttrValue.TheOpen.{AttrValue-F, Attribute-F}
-use Rattle.uvl_ast.specs.declared.feature.AttrValue.TheFolds.{fold-AttrValue, fold-Attribute, fold-roll-AttrValue, fold-roll-Attribute, fold_out-Attribute, ind-AttrValue, map-AttrValue, map-Attribute}
+use Rattle.uvl_ast.specs.declared.feature.AttrValue.TheFolds.{fold-AttrValue, fold-Attribute, fold-roll-AttrValue, fold-roll-Attribute, fold_out-Attribute, ind-AttrValue, map-AttrValue}
 use Rattle.uvl_ast.specs.Keys as ast
 use Rattle.uvl_ast.specs.Nesting.{nesting_of_attribute}
 use Rattle.uvl_ast.specs.Texts.{AreQuotable, texts_of}

@@ -1,6 +1,6 @@
 -- The rows of an accepted set are sound, and say what the set says.
-use Rattle.std.proofs.Common.{◌≡◌, ℕ, ◌+◌, ◌-◌, ◌<◌, ◌≤◌, List, [], ◌∷◌, ◌++◌, length, map, get_or, Option, Some, None, Bool, true, ◌&&◌, refl, sym, ap, ◌∙◌, subst, arith}
-use Rattle.std.specs.Prelude.{slice_get, IsTrue, unwrap_or}
+use Rattle.std.proofs.Common.{◌≡◌, ℕ, ◌+◌, ◌-◌, ◌<◌, ◌≤◌, List, [], ◌∷◌, length, map, get_or, Some, None, refl, sym, ap, ◌∙◌, subst, arith}
+use Rattle.std.specs.Prelude.{slice_get, IsTrue}
 use Rattle.std.specs.List.{All, AllByRecursion, list_all}
 use Rattle.std.proofs.lemmas.Bool.{and_from}
 use Rattle.std.proofs.lemmas.List.{length-map}
@@ -19,10 +19,10 @@ use Rattle.uvl_model.specs.Constraints as model
 use Rattle.uvl_model.specs.Laws.{RowsGiveNames, SmallRulesMayBe}
 use Rattle.uvl_model.specs.Names.{feature_names}
 use Rattle.uvl_model.specs.Rows.{Rows}
-use Rattle.uvl_model.specs.Rules.{IsRule, IsThere, features_of}
+use Rattle.uvl_model.specs.Rules.{IsRule, features_of}
 use Rattle.uvl_model.specs.Sound as sound
-use Rattle.uvl_model.specs.Spelling.{Spells, feature_rows, group_rows, size_of}
-use Rattle.uvl_placing.specs.Files.{main_constraints, main_tree, placed, said}
+use Rattle.uvl_model.specs.Spelling.{Spells, feature_rows, group_rows}
+use Rattle.uvl_placing.specs.Files.{main_tree, placed, said}
 use Rattle.uvl_placing.specs.Options.{known}
 use Rattle.uvl_resolve.specs.Flat.{Flat}
 use Rattle.uvl_resolve.specs.Under.{constraint_under}
@@ -37,7 +37,7 @@ use Rattle.uvl_scope.specs.declared.scope.Scope.{Scope}
 use Rattle.uvl_scope.specs.Faults.{IsAccepted}
 use Rattle.uvl_scope.specs.Trees.{AreScopesOf}
 use Rattle.uvl_semantics.specs.Constraint.{Constraint}
-use Rattle.uvl_semantics.specs.Tree.{Tree, depth_of, names_of}
+use Rattle.uvl_semantics.specs.Tree.{Tree, names_of}
 
 -- the last of some
 last_there : {A : Type 0} (xs : List A) → 1 ≤ length xs → (x : A) × (slice_get xs (length xs - 1) ≡ Some x)

@@ -1,18 +1,18 @@
 -- The trees that the placing lines of a file place stand within the file's tree.
-use Rattle.std.proofs.Common.{◌≡◌, ℕ, ◌+◌, List, [], ◌∷◌, ◌++◌, length, map, Option, Some, None, Bool, true, false, cond, refl, sym, ap, ◌∙◌, subst, arith}
+use Rattle.std.proofs.Common.{◌≡◌, ℕ, ◌+◌, List, [], ◌∷◌, ◌++◌, length, map, Option, Some, None, Bool, true, false, cond, refl, sym, ap, ◌∙◌, subst}
 use Rattle.std.specs.Prelude.{slice_get}
 use Rattle.std.specs.List.{AllByRecursion, flat_map}
-use Rattle.std.specs.Option.{option_map, option_and_then}
+use Rattle.std.specs.Option.{option_and_then}
 use Rattle.std.specs.Str.{bytes_eq}
 use Rattle.std.proofs.lemmas.Slice.Eq.{bytes_eq-Decides}
 use Rattle.uvl_ast.specs.declared.feature.Attribute.{Attribute}
 use Rattle.uvl_ast.specs.declared.feature.Feature.{Feature, roll-Feature}
 use Rattle.uvl_ast.specs.declared.feature.Feature.TheOpen.{Feature-F, Group-F}
-use Rattle.uvl_ast.specs.declared.feature.Feature.TheFolds.{fold-roll-Feature, fold-roll-Group, map-Feature}
+use Rattle.uvl_ast.specs.declared.feature.Feature.TheFolds.{fold-roll-Feature, fold-roll-Group}
 use Rattle.uvl_ast.specs.declared.feature.Group.{Group, roll-Group}
 use Rattle.uvl_placing.specs.Constraints.{placing_names, placings_below, placings_from, placings_of_feature, placings_of_group}
 use Rattle.uvl_placing.specs.Names.{dotted, front_of, last_of, target_called}
-use Rattle.uvl_placing.specs.Options.{known, of_both}
+use Rattle.uvl_placing.specs.Options.{known}
 use Rattle.uvl_placing.specs.Trees.{Imports, Branch, branch_of, branch_of_group, branch_of_written, groups_of, members_of, tree_called, tree_of_feature, tree_of_line, tree_of_names, tree_placed, with_root}
 use Rattle.uvl_resolve.specs.steps.Rules.{StandAt}
 use Rattle.uvl_resolve.proofs.Parts.{by_parts, both_all}

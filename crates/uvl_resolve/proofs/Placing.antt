@@ -1,5 +1,5 @@
 -- What the placing lines of a file place, and the constraints that they add.
-use Rattle.std.proofs.Common.{◌≡◌, ℕ, ◌+◌, ◌<◌, ◌≤◌, List, [], ◌∷◌, ◌++◌, length, map, drop, get_or, Option, Some, None, Bool, true, false, cond, refl, sym, ap, ◌∙◌, subst, arith}
+use Rattle.std.proofs.Common.{◌≡◌, ℕ, ◌+◌, ◌<◌, ◌≤◌, List, [], ◌∷◌, ◌++◌, length, map, get_or, Option, Some, None, Bool, true, false, cond, refl, sym, ap, ◌∙◌, subst, arith}
 use Rattle.std.specs.Prelude.{slice_get, position}
 use Rattle.std.specs.List.{All, AllByRecursion, flat_map}
 use Rattle.std.specs.Option.{option_map, option_and_then}
@@ -16,11 +16,10 @@ use Rattle.uvl_imports.specs.Sets.{IsWhole}
 use Rattle.uvl_imports.specs.declared.file_set.Loaded.{Loaded}
 use Rattle.uvl_model.specs.declared.rule.Rule.{Rule}
 use Rattle.uvl_placing.specs.Constraints.{constraints_placed, constraints_of_placings, constraints_of_rules, placing_names, placings_below, placings_from, placings_of_feature, placings_of_group}
-use Rattle.uvl_placing.specs.Files.{constraints_of_file, constraints_of_tree, imports_of, placed, placings_of_root, said, tree_of_file, tree_of_root}
+use Rattle.uvl_placing.specs.Files.{constraints_of_tree, imports_of, placed, placings_of_root, said, tree_of_file, tree_of_root}
 use Rattle.uvl_placing.specs.Laws.{FilesAreReadAmongAll}
 use Rattle.uvl_placing.specs.Names.{dotted, front_of, qualifier_of, target_called}
-use Rattle.uvl_placing.specs.Options.{joined, known, of_both}
-use Rattle.uvl_placing.specs.Trees.{tree_of_line}
+use Rattle.uvl_placing.specs.Options.{known, of_both}
 use Rattle.uvl_resolve.specs.declared.placements.Placement.{Placement}
 use Rattle.uvl_resolve.specs.steps.Placements.{AddsPlacements, AreReady, IsPlaced, IsReady, names_at, names_in, placement, placement_of}
 use Rattle.uvl_resolve.specs.steps.Rules.{Says, StandAt}

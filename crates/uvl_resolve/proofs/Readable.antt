@@ -1,7 +1,6 @@
 -- An expression without numbers whose references are known is made a rule.
-use Rattle.std.proofs.Common.{◌≡◌, ℕ, suc, ◌+◌, ◌<◌, List, [], ◌∷◌, ◌++◌, length, Option, Some, None, Bool, true, false, not, cond, refl, sym, ap, ◌∙◌, subst, arith}
-use Rattle.std.specs.Prelude.{position, ◌||◌, nat_lt}
-use Rattle.std.specs.List.{list_any, position_or_len}
+use Rattle.std.proofs.Common.{◌≡◌, ℕ, suc, ◌+◌, List, [], ◌∷◌, ◌++◌, Option, Some, None, Bool, true, false, not, cond, refl, sym, ap, ◌∙◌, subst}
+use Rattle.std.specs.Prelude.{position, ◌||◌}
 use Rattle.std.specs.Option.{option_map, option_or}
 use Rattle.std.specs.Str.{bytes_eq}
 use Rattle.std.proofs.lemmas.Bool.{or_parts, false≢true, not-false}

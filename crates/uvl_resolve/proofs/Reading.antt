@@ -1,5 +1,5 @@
 -- What a made rule says: the constraint that its expression is, with a text in front of each name.
-use Rattle.std.proofs.Common.{◌≡◌, ℕ, ◌+◌, ◌<◌, ◌≤◌, max, List, [], ◌∷◌, ◌++◌, map, length, Option, Some, None, Bool, true, ◌&&◌, refl, sym, ap, ◌∙◌, subst, arith}
+use Rattle.std.proofs.Common.{◌≡◌, ℕ, ◌+◌, ◌<◌, ◌≤◌, max, List, [], ◌++◌, length, Option, Some, None, ◌&&◌, refl, sym, ap, ◌∙◌, subst, arith}
 use Rattle.std.specs.Prelude.{slice_get, position, unwrap_or, IsTrue}
 use Rattle.std.specs.List.{All}
 use Rattle.std.specs.Option.{option_map}
@@ -23,7 +23,6 @@ use Rattle.uvl_model.specs.declared.rule.Rule.{Rule}
 use Rattle.uvl_model.specs.declared.rule.Rule.TheVariants as rule
 use Rattle.uvl_model.specs.Comparisons.{has_no_comparison}
 use Rattle.uvl_model.specs.Constraints as model
-use Rattle.uvl_model.specs.Names.{name_of}
 use Rattle.uvl_model.specs.Rules.{features_of}
 use Rattle.uvl_model.specs.Rules as rules
 use Rattle.uvl_model.specs.Spelling.{numbered}
@@ -32,7 +31,7 @@ use Rattle.uvl_placing.specs.Meaning.{Meaning, meaning_of, meaning_with, of_oper
 use Rattle.uvl_placing.specs.Names.{dotted}
 use Rattle.uvl_placing.specs.Options.{of_both}
 use Rattle.uvl_resolve.specs.Under.{constraint_under}
-use Rattle.uvl_resolve.specs.steps.Rules.{feature_called, joined, joined_by, made_of, made_with, StandAt}
+use Rattle.uvl_resolve.specs.steps.Rules.{joined, joined_by, made_of, made_with, StandAt}
 use Rattle.uvl_resolve.proofs.Options.{made_there}
 use Rattle.uvl_semantics.specs.Constraint.{Constraint, selected, negation, conjunction, disjunction, implication, equivalence}
 

@@ -17,7 +17,7 @@ use Rattle.uvl_placing.specs.Options.{of_both, known}
 use Rattle.uvl_placing.specs.Trees.{Imports, Branch, tree_called, with_root, tree_placed, tree_of_names, members_of, groups_of, branch_of, tree_of_feature, branch_of_group, tree_of_line, branch_of_written}
 use Rattle.uvl_resolve.specs.Under.{tree_under, groups_under, members_under}
 use Rattle.uvl_resolve.specs.steps.Walk.{said_by_line, said_by_group, said_by_groups, said_by_members, said_by_file, said_by_names, branch_under, qualifiers_of}
-use Rattle.uvl_resolve.proofs.Options.{both_there, made_there}
+use Rattle.uvl_resolve.proofs.Options.{made_there}
 use Rattle.uvl_resolve.proofs.UnderTexts.{longer, under_longer}
 use Rattle.uvl_semantics.specs.Prefix.{prefixed}
 use Rattle.uvl_semantics.specs.Tree.{Tree, Groups, Members, feature, group, member, top_name}

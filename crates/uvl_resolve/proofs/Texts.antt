@@ -5,11 +5,10 @@ use Rattle.std.specs.Str.{IsUtf8, chars}
 use Rattle.std.specs.List.{list_all}
 use Rattle.std.proofs.lemmas.Bool.{and_from, and_parts}
 use Rattle.std.proofs.lemmas.Bool.Decides.{nat_tests}
-use Rattle.std.proofs.lemmas.List.{append_assoc, drop_more}
+use Rattle.std.proofs.lemmas.List.{drop_more}
 use Rattle.std.proofs.lemmas.List.Folds.{list_all-append}
 use Rattle.std.proofs.lemmas.Str.{chars-append, chars-encodes}
 use Rattle.uvl_base.specs.Name.{is_name, may_stand_in_name}
-use Rattle.uvl_placing.specs.Names.{dotted, behind_dots}
 use Rattle.uvl_resolve.specs.Under.{MayStandInName}
 
 -- the item at an index is the first of what is left there
@@ -19,13 +18,6 @@ next_item {A} all i item h is = drop_more all i item h ∙ ap (λ (x : A). x ∷
 -- the characters of a text with more behind it
 pub pushed : (old new more cs : List ℕ) → IsUtf8 old → new ≡ old ++ more → chars more ≡ cs → chars new ≡ chars old ++ cs
 pushed old new more cs utf8 e f = ap chars e ∙ chars-append old more utf8 ∙ ap (λ (xs : List ℕ). chars old ++ xs) f
-
--- a dot and a name are behind the text, and the others are left
-pub next_name : (old dot new name : List ℕ) (rest : List (List ℕ)) (whole : List ℕ) → dot ≡ old ++ 46 ∷ [] → new ≡ dot ++ name
-    → old ++ behind_dots (name ∷ rest) ≡ whole → new ++ behind_dots rest ≡ whole
-next_name old dot new name rest whole d n w =
-    ap (λ (xs : List ℕ). xs ++ behind_dots rest) (n ∙ ap (λ (xs : List ℕ). xs ++ name) d ∙ append_assoc old (46 ∷ []) name)
-    ∙ append_assoc old (46 ∷ name) (behind_dots rest) ∙ w
 
 -- both texts may stand in a name
 pub both_stand : (front behind : List ℕ) → MayStandInName front → MayStandInName behind → MayStandInName (front ++ behind)
@@ -48,13 +40,6 @@ longer_name (c ∷ cs) name h is =
 pub dot_is : chars (46 ∷ []) ≡ 46 ∷ []
 unfolding lib.Utf8.encode
 dot_is = chars-encodes (46 ∷ []) refl
-
--- a first name, and then the others behind dots
-pub first_name : (old first_one new name : List ℕ) (rest : List (List ℕ)) (names : List (List ℕ)) → first_one ≡ old ++ name
-    → new ≡ first_one ++ behind_dots rest → names ≡ name ∷ rest → new ≡ old ++ dotted names
-first_name old first_one new name rest names f n e =
-    n ∙ ap (λ (xs : List ℕ). xs ++ behind_dots rest) f ∙ append_assoc old name (behind_dots rest)
-    ∙ ap (λ (ns : List (List ℕ)). old ++ dotted ns) (sym e)
 
 -- what follows from a fact where a call succeeds
 pub on_ok : {T E : Type 0} (r : Result T E) (P Q : Type 0) → (P → Q) → OnOk r P → OnOk r Q

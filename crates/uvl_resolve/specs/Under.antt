@@ -1,15 +1,10 @@
 -- Trees and constraints whose names have a text in front.
-use Rattle.std.specs.Prelude.{ℕ, List, ◌++◌, IsTrue}
-use Rattle.std.specs.List.{list_all}
-use Rattle.uvl_base.specs.Name.{may_stand_in_name}
+use Rattle.std.specs.Prelude.{ℕ, List, ◌++◌}
+pub use Rattle.uvl_scope.specs.Spelling.{MayStandInName}
 use Rattle.uvl_semantics.specs.Constraint.{Quantity, literal, attribute, total, plus, minus, times}
 use Rattle.uvl_semantics.specs.Constraint.{Constraint, selected, negation, conjunction, disjunction, implication}
 use Rattle.uvl_semantics.specs.Constraint.{equivalence, comparison}
 use Rattle.uvl_semantics.specs.Tree.{Tree, Groups, Members, Head, feature, no_groups, group, no_members, member}
-
--- each character of the text may stand in a name
-abbrev pub MayStandInName : List ℕ → Type 0
-MayStandInName text = IsTrue (list_all may_stand_in_name text)
 
 -- a feature with a text in front of its name
 abbrev pub head_under : List ℕ → Head → Head

@@ -1,10 +1,11 @@
 //! Names with a text in front, as the qualifiers of placing lines put them there.
-ghost use Rattle.std.specs.Prelude.{◌≡◌, ◌++◌, ◌∷◌, [], chars, string_bytes, IfOk, OnOk};
-ghost use Rattle.uvl_placing.specs.Names.{dotted, behind_dots};
+ghost use Rattle.std.specs.Prelude.{◌≡◌, ◌++◌, ◌∷◌, [], chars, string_bytes, IfOk};
+ghost use Rattle.uvl_placing.specs.Names.{dotted};
 ghost use Rattle.uvl_resolve.specs.Under.{MayStandInName};
 
 use std::alloc::{AllocError, Global};
 use uvl_base::{Name, NameFault, OutOfMemory};
+use uvl_scope::push_dotted;
 
 /// The name with a text in front, which holds nothing that can't stand in a name.
 pub(crate) fn name_behind(alloc: Global, text: &str, name: &Name) -> Result<Name, OutOfMemory>
@@ -31,31 +32,4 @@ pub(crate) fn text_behind(alloc: Global, text: &str, names: &[Name]) -> Result<S
     push_dotted(&mut whole, names)?;
     whole.push_str(".")?;
     Ok(whole)
-}
-
-/// Puts names behind a text, joined by dots.
-pub(crate) fn push_dotted(text: &mut String, names: &[Name]) -> Result<(), OutOfMemory>
-    ensures pushed { OnOk result (chars (string_bytes text.new) ≡ chars (string_bytes text.old) ++ dotted names.now) }
-    ensures name { OnOk result
-        (MayStandInName (chars (string_bytes text.old)) → MayStandInName (chars (string_bytes text.new))) }
-{
-    let Some((first, others)) = names.split_first() else {
-        return Ok(());
-    };
-    text.push_str(first.text())?;
-    push_behind_dots(text, others)
-}
-
-/// Puts names behind a text, with a dot in front of each.
-fn push_behind_dots(text: &mut String, names: &[Name]) -> Result<(), OutOfMemory>
-    ensures pushed { OnOk result
-        (chars (string_bytes text.new) ≡ chars (string_bytes text.old) ++ behind_dots names.now) }
-    ensures name { OnOk result
-        (MayStandInName (chars (string_bytes text.old)) → MayStandInName (chars (string_bytes text.new))) }
-{
-    for name in names {
-        text.push_str(".")?;
-        text.push_str(name.text())?;
-    }
-    Ok(())
 }

@@ -7,13 +7,12 @@ ghost use Rattle.uvl_placing.specs.Names.{qualifier_of};
 ghost use Rattle.uvl_placing.specs.Options.{of_both};
 ghost use Rattle.uvl_resolve.specs.steps.Placements.{AddsPlacements, IsPlaced, placement, placement_of};
 
-use crate::name::push_dotted;
 use crate::walk::target_of;
 use std::alloc::Global;
 use uvl_ast::{Feature, Group};
 use uvl_base::{Name, OutOfMemory};
 use uvl_imports::Loaded;
-use uvl_scope::NameIndex;
+use uvl_scope::{NameIndex, push_dotted};
 
 /// A placing line of a file: the position of the file that it places, and the number that the root of
 /// that file has among the features of the placing file.

@@ -5,12 +5,11 @@ ghost use Rattle.uvl_imports.specs.Texts.{AreDistinct};
 ghost use Rattle.uvl_placing.specs.Names.{qualifier_of};
 ghost use Rattle.uvl_resolve.specs.steps.Walk.{qualifiers_of};
 
-use crate::name::push_dotted;
 use std::alloc::Global;
 use uvl_ast::Import;
 use uvl_base::OutOfMemory;
 use uvl_imports::Loaded;
-use uvl_scope::NameIndex;
+use uvl_scope::{NameIndex, push_dotted};
 
 /// The qualifiers of the import lines of each file, in which they differ.
 pub(crate) fn qualifiers_of(alloc: Global, files: &[Loaded]) -> Result<Vec<NameIndex>, OutOfMemory>

@@ -4,13 +4,12 @@ ghost use Rattle.uvl_base.specs.Limits.{most_features};
 ghost use Rattle.uvl_placing.specs.Names.{dotted};
 ghost use Rattle.uvl_resolve.specs.steps.Rules.{feature_called, joined_by, made_of, within, IsMade, IsSingle};
 
-use crate::name::push_dotted;
 use sqlite_items::Boxed;
 use std::alloc::Global;
 use uvl_ast::{BinOp, Expr, Ref};
 use uvl_base::OutOfMemory;
 use uvl_model::{FeatureNo, Rule};
-use uvl_scope::NameIndex;
+use uvl_scope::{NameIndex, push_dotted};
 
 /// An operator with its right operand, whose left operand is still to be made.
 #[derive(Drop)]

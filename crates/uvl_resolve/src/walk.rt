@@ -8,7 +8,7 @@ ghost use Rattle.uvl_resolve.specs.steps.Walk.{AddsTree, AddsGroup, AddsGroups, 
 ghost use Rattle.uvl_semantics.specs.Tree.{Tree};
 
 use crate::bounds::{least_of, most_of};
-use crate::name::{push_dotted, text_behind};
+use crate::name::text_behind;
 use crate::rows::RowBuilder;
 use sqlite_items::Items;
 use std::alloc::Global;
@@ -17,7 +17,7 @@ use uvl_base::{Name, OutOfMemory};
 use uvl_imports::Loaded;
 use uvl_model::{FeatureNo, GroupRow};
 use uvl_placing::files_are_read_in_order;
-use uvl_scope::NameIndex;
+use uvl_scope::{NameIndex, push_dotted};
 
 impl RowBuilder {
     /// Adds the tree of a file, with a text in front of each name. The files in front of it are given,

@@ -1,9 +1,9 @@
 -- The placing lines of a line, and then those below it.
-use Rattle.std.proofs.Common.{◌≡◌, ◌+◌, List, ℕ, [], ◌++◌, length, map, drop, arith, sym, ap, ◌∙◌, subst}
+use Rattle.std.proofs.Common.{◌≡◌, ◌+◌, List, ℕ, map, drop, arith, sym, ap, ◌∙◌, subst}
 use Rattle.std.specs.List.{All, flat_map}
 use Rattle.std.proofs.lemmas.List.{drop_all}
 use Rattle.uvl_ast.specs.declared.feature.Feature.{Feature, out-Feature}
-use Rattle.uvl_ast.specs.declared.feature.Group.{Group, out-Group}
+use Rattle.uvl_ast.specs.declared.feature.Group.{Group}
 use Rattle.uvl_placing.specs.Constraints.{placing_names, placings_below, placings_from}
 use Rattle.uvl_resolve.specs.steps.Placements.{AddsPlacements, IsPlaced}
 use Rattle.uvl_resolve.proofs.Depths.{depth_at, depth_in, group_within, groups_depth, member_within, members_depth}

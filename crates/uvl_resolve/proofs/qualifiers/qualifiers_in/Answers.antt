@@ -1,9 +1,8 @@
 -- Each qualifier is new.
-use Rattle.std.proofs.Common.{◌≡◌, ◌++◌, ◌+◌, [], List, ℕ, map, take, get_or, length, sym, ap, ◌∙◌, arith}
+use Rattle.std.proofs.Common.{◌≡◌, ◌++◌, ◌+◌, [], List, ℕ, map, sym, ap, ◌∙◌, arith}
 use Rattle.std.specs.Str.{chars}
 use Rattle.std.proofs.lemmas.List.{length-map}
 use Rattle.std.proofs.lemmas.Str.{chars-nil}
-use Rattle.uvl_ast.specs.declared.file.Import.{Import}
 use Rattle.uvl_placing.specs.Names.{qualifier_of}
 use Rattle.uvl_resolve.proofs.Apart.{one_more_name, mapped_at, mapped_take}
 use Rattle.uvl_resolve.proofs.qualifiers.qualifiers_in.Goals as goal

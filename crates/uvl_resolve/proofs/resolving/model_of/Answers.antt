@@ -1,12 +1,11 @@
 -- The rows of the main file's tree and its rules are a sound model.
-use Rattle.std.proofs.Common.{◌≡◌, ◌+◌, ◌-◌, ◌≤◌, ℕ, List, [], map, Option, Some, None, length, refl, subst, sym, ap, ◌∙◌, arith}
+use Rattle.std.proofs.Common.{◌≡◌, ◌-◌, ◌≤◌, ℕ, List, [], map, Option, Some, None, length, refl, subst, sym, ap, ◌∙◌, arith}
 use Rattle.std.specs.Prelude.{slice_get, unwrap_or}
 use Rattle.uvl_base.specs.Limits.{most_features}
 use Rattle.uvl_imports.specs.Sets.{IsWhole}
 use Rattle.uvl_imports.specs.Texts.{AreDistinct}
 use Rattle.uvl_imports.specs.declared.file_set.Loaded.{Loaded}
 use Rattle.uvl_model.specs.declared.rows.FeatureRow.{FeatureRow}
-use Rattle.uvl_model.specs.declared.rows.GroupRow.{GroupRow}
 use Rattle.uvl_model.specs.declared.rule.Rule.{Rule}
 use Rattle.uvl_model.specs.Comparisons.{HaveNoComparison}
 use Rattle.uvl_model.specs.Spelling.{feature_rows, group_rows, size_of}

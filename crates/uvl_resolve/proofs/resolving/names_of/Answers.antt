@@ -1,9 +1,8 @@
 -- Each name is new.
-use Rattle.std.proofs.Common.{◌≡◌, ◌+◌, ◌^◌, [], List, ℕ, map, take, length, sym, ap, ◌∙◌, arith}
+use Rattle.std.proofs.Common.{◌+◌, [], List, ℕ, map, take, length, sym, ap, ◌∙◌, arith}
 use Rattle.std.specs.Str.{chars}
 use Rattle.std.proofs.lemmas.List.{length-map}
 use Rattle.uvl_model.specs.declared.rows.FeatureRow.{FeatureRow}
-use Rattle.uvl_resolve.proofs.Model.{rows_sound, rows_flat, main_is}
 use Rattle.uvl_resolve.proofs.Apart.{known_is, mapped_at, mapped_take, one_more_name, take_short}
 use Rattle.uvl_resolve.proofs.resolving.names_of.Goals as goal
 

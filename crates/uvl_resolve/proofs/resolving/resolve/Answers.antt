@@ -1,8 +1,7 @@
 -- What is met with the names is why there is no model.
-use Rattle.std.proofs.Common.{◌≡◌, List, subst, sym, ap, ◌∙◌}
+use Rattle.std.proofs.Common.{List, subst, sym, ap, ◌∙◌}
 use Rattle.uvl_imports.specs.declared.file_set.Loaded.{Loaded}
 use Rattle.uvl_imports.specs.Sets.{IsWhole}
-use Rattle.uvl_scope.specs.declared.scope.Scope.{Scope}
 use Rattle.uvl_scope.specs.Faults.{IsAccepted, scopes_of}
 use Rattle.uvl_scope.specs.Trees.{AreScopesOf}
 use Rattle.uvl_resolve.proofs.resolving.resolve.Goals as goal

@@ -1,10 +1,10 @@
 -- The rules of a feature, and then those below it.
-use Rattle.std.proofs.Common.{◌≡◌, ◌+◌, List, ℕ, [], ◌++◌, map, drop, arith, sym, ap, ◌∙◌, subst}
+use Rattle.std.proofs.Common.{◌≡◌, ◌+◌, List, ℕ, ◌++◌, map, drop, arith, sym, ap, ◌∙◌, subst}
 use Rattle.std.specs.List.{All, flat_map}
 use Rattle.std.proofs.lemmas.List.{drop_all}
 use Rattle.uvl_ast.specs.declared.expression.Expr.{Expr}
 use Rattle.uvl_ast.specs.declared.feature.Feature.{Feature, out-Feature}
-use Rattle.uvl_ast.specs.declared.feature.Group.{Group, out-Group}
+use Rattle.uvl_ast.specs.declared.feature.Group.{Group}
 use Rattle.uvl_ast.specs.Rules.{all_rules, all_rules_of_group}
 use Rattle.uvl_placing.specs.Constraints.{constraints_of_rules}
 use Rattle.uvl_resolve.specs.steps.Rules.{IsPlain, Says}

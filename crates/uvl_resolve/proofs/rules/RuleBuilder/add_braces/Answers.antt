@@ -1,5 +1,5 @@
 -- Those of the root, where there is one.
-use Rattle.std.proofs.Common.{◌≡◌, List, ℕ, Option, subst, sym}
+use Rattle.std.proofs.Common.{Option, subst, sym}
 use Rattle.std.specs.List.{All}
 use Rattle.uvl_ast.specs.declared.feature.Feature.{Feature}
 use Rattle.uvl_ast.specs.Rules.{all_rules_of_root}

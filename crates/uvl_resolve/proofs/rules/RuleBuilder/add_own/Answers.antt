@@ -1,5 +1,5 @@
 -- The rules in braces, and then the lines.
-use Rattle.std.proofs.Common.{◌≡◌, List, ◌++◌, sym, ap, ◌∙◌, subst}
+use Rattle.std.proofs.Common.{◌≡◌, List, ◌++◌, sym, ap, subst}
 use Rattle.std.specs.List.{All}
 use Rattle.uvl_ast.specs.declared.expression.Expr.{Expr}
 use Rattle.uvl_ast.specs.Rules.{all_rules_of_root, rules_of}
