@@ -1,8 +1,8 @@
 -- What is held beside the live handles of before, over several calls, and why a refusal inside is one of the whole.
-use Rattle.std.proofs.Common.{◌≡◌, ◌⊎◌, ℕ, ◌+◌, ◌<◌, ◌≤◌, List, [], ◌∷◌, ◌++◌, length, slice_index, refl, ap, sym, ◌∙◌, subst, inl, inr, arith, append-nil, append_assoc, length-append}
+use Rattle.std.proofs.Common.{◌≡◌, ◌⊎◌, ℕ, ◌+◌, ◌<◌, ◌≤◌, List, [], ◌∷◌, ◌++◌, length, get_or, slice_index, refl, ap, sym, ◌∙◌, subst, inl, inr, arith, append-nil, append_assoc, length-append}
 use Rattle.std.specs.List.{All, Contains}
 use Rattle.std.proofs.lemmas.Bool.{cases_lt, cases_eq}
-use Rattle.std.proofs.lemmas.List.{get_or_append_left, get_or_push, length_push}
+use Rattle.std.proofs.lemmas.List.{get_or_append_left, get_or_push, get_or_read, length_push}
 use Rattle.std.proofs.lemmas.List.Elements.{All-nil, All-cons, All-head, All-tail, All-append, All-weaker}
 use Rattle.dd_store.specs.declared.refusal.Refusal.{Refusal}
 use Rattle.dd_store.specs.declared.refusal.Refusal.TheVariants.{OverBudget, OutOfMemory}
@@ -33,6 +33,10 @@ counted P (m ∷ ms) n all some = elim (cases_eq n m) [
   | inl same ↦ subst P (sym same) (All-head P m ms all)
   | inr other ↦ let none = one_on-other m n other in counted P ms n (All-tail P m ms all) (omega arith)
 ]
+
+-- what is read at a place
+pub place-read : (held held' : List ℕ) (place n : ℕ) → held' ≡ held → place < length held → n ≡ get_or held' place n → n ≡ slice_index held place
+place-read held held' place n same inside is = get_or_read held place n inside (is ∙ ap (λ (hs : List ℕ). get_or hs place n) same) 0
 
 -- nothing is added
 pub adds-none : (t u : Table) (held held' : List ℕ) (f : Function) (most : ℕ) → Keeps t u → KeepsHandles t u → held' ≡ held → 0 < most

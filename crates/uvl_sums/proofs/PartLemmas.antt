@@ -1,9 +1,11 @@
 -- Parts of a comparison: what stays of them, and how a part is made of its halves.
-use Rattle.std.proofs.Common.{◌≡◌, ◌⊎◌, ℕ, zero, suc, ◌+◌, ◌*◌, ◌^◌, ◌<◌, ◌≤◌, ℤ, pos, ◌+ℤ◌, ◌-ℤ◌, ◌≤ℤ◌, Bool, List, [], ◌∷◌, length, drop, get_or, slice_index, Option, Some, None, refl, ap, sym, ◌∙◌, subst, inl, inr, arith}
+use Rattle.std.proofs.Common.{◌≡◌, ◌⊎◌, ℕ, zero, suc, ◌+◌, ◌*◌, ◌^◌, ◌<◌, ◌≤◌, ℤ, pos, ◌+ℤ◌, ◌-ℤ◌, ◌≤ℤ◌, Bool, true, false, cond, to_z, of_z, List, [], ◌∷◌, length, drop, get_or, slice_index, Option, Some, None, IfSome, IfNone, ◌<ℤ◌, refl, ap, sym, ◌∙◌, subst, inl, inr, arith}
 use Rattle.std.specs.BTreeMap.{BTreeMap, get}
 use Rattle.std.specs.Int.{int_min, int_max}
 use Rattle.std.specs.List.{All, Contains}
-use Rattle.std.proofs.lemmas.Int.{ints, clamps}
+use Rattle.std.specs.Prelude.{◌-◌, int_lt, unsigned_abs, FitsSigned}
+use Rattle.std.proofs.lemmas.Int.{ints, clamps, to_z-of_z}
+use mir.Syntax.{w128}
 use Rattle.std.proofs.lemmas.List.{drop_more, length-map}
 use Rattle.std.proofs.lemmas.List.Elements.{All-head, All-tail}
 use Rattle.dd_store.specs.declared.row.Var.{Var}
@@ -27,8 +29,9 @@ use Rattle.uvl_sums.specs.Parts.{Adds, HasValueAt, IsPart, IsPartFor, AreHalves,
 use Rattle.uvl_sums.specs.Settled.{IsBetween, IsInterval, AreSmall, Settles}
 use Rattle.uvl_sums.specs.Steps.{term_of, terms_of, terms_from, weight_at, levels_of, least_total, greatest_total, HaveBounds, AreSorted, ArePlanned, meets, remaining, IsSmall}
 use Rattle.uvl_sums.specs.Sums.{Term, total, size_of}
-use Rattle.uvl_sums.proofs.AddsLemmas.{value-stays}
-use Rattle.uvl_sums.proofs.TotalLemmas.{remaining-free, low-cofactor, high-cofactor, remaining-fork, total-between, size-cons, small-low, small-high, are-small}
+use Rattle.dd_store.proofs.ChangeLemmas.{keeps_all}
+use Rattle.uvl_sums.proofs.AddsLemmas.{adds-none, value-stays}
+use Rattle.uvl_sums.proofs.TotalLemmas.{remaining-free, low-cofactor, high-cofactor, remaining-fork, total-between, size-cons, small-low, small-high, are-small, IsOfSize, own-size, fits-small, fits-wide}
 
 -- what is true of all steps is true of those from a place on
 falls : (order : List Var) (first : ℕ) (steps : List Step) (at : ℕ) → IsFallingFrom first (levels_of order (terms_of steps)) → IsFallingFrom first (levels_of order (terms_from steps at))
@@ -240,3 +243,143 @@ module _ (order : List Var) (steps : List Step) (at : ℕ) (d : Step) (inside : 
           let one = halves.low_is.now in
           let two = halves.high_is.now in
           record { from = omega (arith, ints, clamps); upto = omega (arith, ints, clamps) }
+
+-- The same for a step that was read there.
+module _ (order : List Var) (steps : List Step) (at : ℕ) (read : Step) (inside : at < length steps) (planned : ArePlanned order steps) (is : read ≡ get_or steps at read) where
+  pub read-there : IsIn order read.var.0
+  read-there = subst (λ (s : Step). IsIn order s.var.0) (sym is) (variable-there order steps at read inside planned)
+
+  pub read-small : (s : ℤ) → IsSmall (terms_from steps at) s → IsSmall (terms_from steps (at + 1)) (s +ℤ read.weight)
+  read-small s small = subst (λ (r : Step). IsSmall (terms_from steps (at + 1)) (s +ℤ r.weight)) (sym is) (small-added order steps at read inside planned s small)
+
+  pub read-high-part : (exact : Bool) (s : ℤ) → Contains (cofactors order (remaining exact (terms_from steps at) s)) (remaining exact (terms_from steps (at + 1)) (s +ℤ read.weight))
+  read-high-part exact s =
+      subst (λ (r : Step). Contains (cofactors order (remaining exact (terms_from steps at) s)) (remaining exact (terms_from steps (at + 1)) (s +ℤ r.weight))) (sym is)
+      (high-is-part order steps at read inside planned exact s)
+
+  pub read-weight : weight_at steps at ≡ read.weight
+  read-weight = subst (λ (r : Step). weight_at steps at ≡ r.weight) (sym is) (weight-is steps at read inside)
+
+  module _ (t : Table) (H : List ℕ) (exact : Bool) (low high : Part) where
+    pub read-low-below : (s : ℤ) → IsSound t → t.order ≡ order → AreHeld t H → AreHalves t H exact steps at low high s → IsAbove t read.var.0 (slice_index H low.place)
+    read-low-below s sound same held halves =
+        subst (λ (r : Step). IsAbove t r.var.0 (slice_index H low.place)) (sym is) (low-below order steps at read inside planned t H exact low high s sound same held halves)
+
+    pub read-high-below : (s : ℤ) → IsSound t → t.order ≡ order → AreHeld t H → AreHalves t H exact steps at low high s → IsAbove t read.var.0 (slice_index H high.place)
+    read-high-below s sound same held halves =
+        subst (λ (r : Step). IsAbove t r.var.0 (slice_index H high.place)) (sym is) (high-below order steps at read inside planned t H exact low high s sound same held halves)
+
+    pub read-fork : (s : ℤ) → AreHalves t H exact steps at low high s
+        → fork read.var.0 (value_at t (slice_index H low.place)) (value_at t (slice_index H high.place)) ≡ remaining exact (terms_from steps at) s
+    read-fork s halves =
+        subst (λ (r : Step). fork r.var.0 (value_at t (slice_index H low.place)) (value_at t (slice_index H high.place)) ≡ remaining exact (terms_from steps at) s) (sym is)
+        (halves-fork order steps at read inside planned t H exact low high s halves)
+
+    module _ (s least greatest : ℤ) (halves : AreHalves t H exact steps at low high s)
+        (least_is : least ≡ int_max low.least (high.least -ℤ read.weight)) (greatest_is : greatest ≡ int_min low.greatest (high.greatest -ℤ read.weight)) where
+      least_at : least ≡ int_max low.least (high.least -ℤ (get_or steps at read).weight)
+      least_at = subst (λ (r : Step). least ≡ int_max low.least (high.least -ℤ r.weight)) is least_is
+
+      greatest_at : greatest ≡ int_min low.greatest (high.greatest -ℤ (get_or steps at read).weight)
+      greatest_at = subst (λ (r : Step). greatest ≡ int_min low.greatest (high.greatest -ℤ r.weight)) is greatest_is
+
+      pub read-part : (u : Table) (H' : List ℕ) (place : ℕ)
+          → HasValueAt u H' place (fork read.var.0 (value_at t (slice_index H low.place)) (value_at t (slice_index H high.place)))
+          → IsPart u H' exact (terms_from steps at) (record { place = place; least = least; greatest = greatest })
+      read-part u H' place has =
+          whole-part order steps at read inside planned t H exact low high s least greatest halves least_at greatest_at u H' place
+          (subst (λ (r : Step). HasValueAt u H' place (fork r.var.0 (value_at t (slice_index H low.place)) (value_at t (slice_index H high.place)))) is has)
+
+      pub read-now : IsBetween least s greatest
+      read-now = whole-now order steps at read inside planned t H exact low high s least greatest halves least_at greatest_at
+
+-- a part that is looked up
+pub recalled-part : (t : Table) (held : List ℕ) (exact : Bool) (steps : List Step) (known : BTreeMap (ℕ × ℤ) Known) (at : ℕ) (s : ℤ) (found : Option Part)
+    → AreKnown t held exact steps known → IfSome found (λ part. IsBetween part.least s part.greatest)
+    → IfSome found (λ part. get key_cmp known (at, part.least) ≡ Some (record { place = part.place; greatest = part.greatest }))
+    → IfSome found (IsPartFor t held exact (terms_from steps at) s)
+recalled-part t held exact steps known at s None are between is = tt
+recalled-part t held exact steps known at s (Some part) are between is = record {
+  now = between;
+  part_is = are (at, part.least) (record { place = part.place; greatest = part.greatest }) is;
+}
+
+-- The numbers of a part are small.
+pub record AreNear (part : Part) : Type 0 where
+  pub least_from : (pos 0 -ℤ pos (2 ^ 126)) ≤ℤ part.least
+  pub least_upto : part.least ≤ℤ pos (2 ^ 126)
+  pub greatest_from : (pos 0 -ℤ pos (2 ^ 126)) ≤ℤ part.greatest
+  pub greatest_upto : part.greatest ≤ℤ pos (2 ^ 126)
+
+pub are-near : (t : Table) (H : List ℕ) (exact : Bool) (terms : List Term) (s : ℤ) (part : Part) → IsPartFor t H exact terms s part → AreNear part
+are-near t H exact terms s part is =
+    let one = is.part_is.interval in
+    let two = is.now in
+    record {
+      least_from = one.from;
+      least_upto = omega (arith, ints);
+      greatest_from = omega (arith, ints);
+      greatest_upto = one.upto;
+    }
+
+-- and so is the weight of a step
+pub weight-small : (order : List Var) (steps : List Step) (at : ℕ) (read : Step) → at < length steps → ArePlanned order steps → read ≡ get_or steps at read → IsOfSize read.weight (2 ^ 126 - 1)
+weight-small order steps at read inside planned is =
+    let step = get_or steps at read in
+    let one : size_of (terms_from steps at) ≡ unsigned_abs step.weight + size_of (terms_from steps (at + 1)) = ap size_of (split order steps at read inside planned) ∙ size-cons (term_of step) (terms_from steps (at + 1)) in
+    let all = sizes steps at in
+    let few = planned.sorted.size in
+    let own = own-size step.weight in
+    subst (λ (r : Step). IsOfSize r.weight (2 ^ 126 - 1)) (sym is) (record { from = omega (arith, ints); upto = omega (arith, ints) })
+
+-- so what is computed of them fits
+either : (b : Bool) (x y : ℤ) → FitsSigned w128 x → FitsSigned w128 y → FitsSigned w128 (cond b x y)
+either true x y one two = one
+either false x y one two = two
+
+module _ (l h w : ℤ) (l_from : (pos 0 -ℤ pos (2 ^ 126)) ≤ℤ l) (l_upto : l ≤ℤ pos (2 ^ 126)) (h_from : (pos 0 -ℤ pos (2 ^ 126)) ≤ℤ h) (h_upto : h ≤ℤ pos (2 ^ 126)) (small : IsOfSize w (2 ^ 126 - 1)) where
+  fits_w : FitsSigned w128 w
+  fits_w = fits-small w (let bottom = small.from in omega (arith, ints)) (let top = small.upto in omega (arith, ints))
+
+  fits_d : FitsSigned w128 (h -ℤ w)
+  fits_d = fits-wide (h -ℤ w) (let top = small.upto in omega (arith, ints)) (let bottom = small.from in omega (arith, ints))
+
+  same : (to_z w128 (of_z w128 h) -ℤ to_z w128 (of_z w128 w)) ≡ (h -ℤ w)
+  same = ap (λ (z : ℤ). z -ℤ to_z w128 (of_z w128 w)) (to_z-of_z w128 h (fits-small h h_from h_upto)) ∙ ap (λ (z : ℤ). h -ℤ z) (to_z-of_z w128 w fits_w)
+
+  pub moved-fits : FitsSigned w128 (to_z w128 (of_z w128 h) -ℤ to_z w128 (of_z w128 w))
+  moved-fits = subst (λ (z : ℤ). FitsSigned w128 z) (sym same) fits_d
+
+  moved : to_z w128 (of_z w128 (to_z w128 (of_z w128 h) -ℤ to_z w128 (of_z w128 w))) ≡ (h -ℤ w)
+  moved = to_z-of_z w128 (to_z w128 (of_z w128 h) -ℤ to_z w128 (of_z w128 w)) moved-fits ∙ same
+
+  pub max-is : (m : ℤ) → m ≡ int_max (to_z w128 (of_z w128 l)) (to_z w128 (of_z w128 (to_z w128 (of_z w128 h) -ℤ to_z w128 (of_z w128 w)))) → to_z w128 (of_z w128 m) ≡ int_max l (h -ℤ w)
+  max-is m is =
+      let value : m ≡ int_max l (h -ℤ w) = is ∙ ap (λ (z : ℤ). int_max z (to_z w128 (of_z w128 (to_z w128 (of_z w128 h) -ℤ to_z w128 (of_z w128 w))))) (to_z-of_z w128 l (fits-small l l_from l_upto)) ∙ ap (int_max l) moved in
+      to_z-of_z w128 m (subst (λ (z : ℤ). FitsSigned w128 z) (sym value) (either (int_lt (h -ℤ w) l) l (h -ℤ w) (fits-small l l_from l_upto) fits_d)) ∙ value
+
+  pub min-is : (m : ℤ) → m ≡ int_min (to_z w128 (of_z w128 l)) (to_z w128 (of_z w128 (to_z w128 (of_z w128 h) -ℤ to_z w128 (of_z w128 w)))) → to_z w128 (of_z w128 m) ≡ int_min l (h -ℤ w)
+  min-is m is =
+      let value : m ≡ int_min l (h -ℤ w) = is ∙ ap (λ (z : ℤ). int_min z (to_z w128 (of_z w128 (to_z w128 (of_z w128 h) -ℤ to_z w128 (of_z w128 w))))) (to_z-of_z w128 l (fits-small l l_from l_upto)) ∙ ap (int_min l) moved in
+      to_z-of_z w128 m (subst (λ (z : ℤ). FitsSigned w128 z) (sym value) (either (int_lt (h -ℤ w) l) (h -ℤ w) l fits_d (fits-small l l_from l_upto))) ∙ value
+
+-- nothing is done
+pub nothing-added : (t : Table) (held : List ℕ) (f : Function) (most : ℕ) → IsSound t → 0 < most → Adds t held t held f most
+nothing-added t held f most sound some =
+    adds-none t t held held f most (keeps_all t sound) (record { each = λ n. refl; total = refl }) refl some
+
+pub some-left : (found : Option Part) (P : Type 0) → P → IfNone found P
+some-left None P is = is
+some-left (Some part) P is = tt
+
+-- where the bounds differ a step is left
+pub step-left : (steps : List Step) (at : ℕ) (l g : ℤ) → l ≡ least_total (terms_from steps at) → g ≡ greatest_total (terms_from steps at) → l <ℤ g → at < length steps
+step-left steps at l g least greatest less = elim (none-left steps at) [
+  | inr inside ↦ inside
+  | inl none ↦ absurd (let same : l ≡ g = least ∙ none ∙ sym greatest in omega (arith, ints))
+]
+
+-- the constant is that of the bounds
+pub settles-at : (exact : Bool) (s s' l l' g g' : ℤ) (settled : Settled) → s' ≡ s → l' ≡ l → g' ≡ g → Settles exact s' l' g' settled → Settles exact s l g settled
+settles-at exact s s' l l' g g' settled one two three is =
+    subst (λ (z : ℤ). Settles exact z l g settled) one (subst (λ (z : ℤ). Settles exact s' z g settled) two (subst (λ (z : ℤ). Settles exact s' l' z settled) three is))

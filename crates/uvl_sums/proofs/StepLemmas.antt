@@ -1,11 +1,11 @@
 -- The terms of a sum by the levels of their variables, sorted, and the steps made of them.
-use Rattle.std.proofs.Common.{◌≡◌, ◌==◌, ℕ, zero, suc, ◌+◌, ◌^◌, ◌<◌, ◌≤◌, ℤ, pos, negsuc, ◌+ℤ◌, ◌-ℤ◌, Bool, true, false, if◌then◌else◌, List, [], ◌∷◌, ◌++◌, length, map, reverse, take, drop, get_or, refl, ap, sym, ◌∙◌, subst, arith}
+use Rattle.std.proofs.Common.{◌≡◌, ◌==◌, ℕ, zero, suc, ◌+◌, ◌^◌, ◌<◌, ◌≤◌, ℤ, pos, Vec, Global, negsuc, ◌+ℤ◌, ◌-ℤ◌, Bool, true, false, if◌then◌else◌, List, [], ◌∷◌, ◌++◌, length, map, reverse, take, drop, get_or, refl, ap, sym, ◌∙◌, subst, arith}
 use Rattle.std.specs.Int.{int_min, int_max}
 use Rattle.std.specs.List.{All, sum_by}
 use Rattle.std.specs.List.Sorted.{IsPermutation, IsNonDecreasingBy}
 use Rattle.std.specs.Prelude.{unsigned_abs}
 use Rattle.std.proofs.lemmas.Int.{ints}
-use Rattle.std.proofs.lemmas.List.{take_more, drop_more, map-append, length-map, get_or-map, reverse-append}
+use Rattle.std.proofs.lemmas.List.{take_more, drop_more, drop_all, map-append, length-map, get_or-map, reverse-append}
 use Rattle.std.proofs.lemmas.List.Elements.{All-head, All-tail, All-cons, All-nil, All-map}
 use Rattle.std.proofs.lemmas.List.Sorted.{All-permutation, IsPermutation-map, sum_by-IsPermutation}
 use Rattle.std.proofs.lemmas.List.Sums.{sum_by-cons}
@@ -14,10 +14,11 @@ use Rattle.dd_store.specs.Order.{level_in, IsIn, IsDistinct}
 use Rattle.dd_count.specs.Levels.{variable_on, IsFallingFrom}
 use Rattle.dd_count.proofs.CountedLemmas.{level-on}
 use Rattle.dd_count.proofs.LevelsLemmas.{levels_in, on-levels, once, falling}
+use Rattle.uvl_sums.specs.declared.linear.Cmp3.{Cmp3}
 use Rattle.uvl_sums.specs.declared.steps.Step.{Step}
-use Rattle.uvl_sums.specs.Steps.{term_of, terms_of, levels_of, terms_on, least_total, greatest_total, HaveBounds, AreSorted, ArePlaced, ArePlanned}
-use Rattle.uvl_sums.specs.Sums.{Term, total, size_of, variables_of}
-use Rattle.uvl_sums.proofs.TotalLemmas.{size-cons}
+use Rattle.uvl_sums.specs.Steps.{term_of, terms_of, levels_of, terms_on, least_total, greatest_total, HaveBounds, AreSorted, ArePlaced, ArePlanned, IsPlanOf, meets}
+use Rattle.uvl_sums.specs.Sums.{Term, total, size_of, variables_of, compares}
+use Rattle.uvl_sums.proofs.TotalLemmas.{AreBounds, bounds-are, size-cons}
 
 -- the level of a term's variable, with its weight
 abbrev pub placed_of : List Var → List Term → List (ℕ × ℤ)
@@ -157,6 +158,7 @@ pub record AreMade (order : List Var) (placed : List (ℕ × ℤ)) (steps : List
   pub bounds : HaveBounds (reverse steps)
   pub least_is : least ≡ least_total (terms_on order (drop left placed))
   pub greatest_is : greatest ≡ greatest_total (terms_on order (drop left placed))
+  pub inside : left ≤ length placed
 
 -- one more step
 pub made-more : (order : List Var) (placed : List (ℕ × ℤ)) (old new : List Step) (least greatest : ℤ) (left left' : ℕ) (d : ℕ × ℤ) (step : Step)
@@ -174,6 +176,7 @@ made-more order placed old new least greatest left left' d step inside one made 
       );
       least_is = low ∙ ap (λ (z : ℤ). z +ℤ int_min step.weight (pos 0)) below-low ∙ ap least_total with-step;
       greatest_is = high ∙ ap (λ (z : ℤ). z +ℤ int_max step.weight (pos 0)) below-high ∙ ap greatest_total with-step;
+      inside = omega arith;
     }
   where
     turned : reverse new ≡ step ∷ reverse old
@@ -199,3 +202,87 @@ made-more order placed old new least greatest left left' d step inside one made 
 
     terms : terms_of (reverse new) ≡ terms_on order (drop left' placed)
     terms = ap terms_of turned ∙ with-step
+
+-- no step is made yet
+pub made-none : (order : List Var) (placed : List (ℕ × ℤ)) (steps : List Step) → steps ≡ [] → AreMade order placed steps (pos 0) (pos 0) (length placed)
+made-none order placed steps none = record {
+  terms = ap (λ (ss : List Step). terms_of (reverse ss)) none ∙ sym (ap (terms_on order) (drop_all (length placed) placed (omega arith)));
+  bounds = subst (λ (ss : List Step). HaveBounds (reverse ss)) (sym none) tt;
+  least_is = sym (ap (λ (ps : List (ℕ × ℤ)). least_total (terms_on order ps)) (drop_all (length placed) placed (omega arith)));
+  greatest_is = sym (ap (λ (ps : List (ℕ × ℤ)). greatest_total (terms_on order ps)) (drop_all (length placed) placed (omega arith)));
+  inside = omega arith;
+}
+
+-- all steps are made
+pub made-all : (order : List Var) (placed : List (ℕ × ℤ)) (steps turned : List Step) (least greatest : ℤ) (left : ℕ) → left ≤ 0 → turned ≡ reverse steps
+    → AreMade order placed steps least greatest left → (terms_of turned ≡ terms_on order placed) × HaveBounds turned
+made-all order placed steps turned least greatest left none is made =
+    let zero' : left ≡ 0 = omega arith in (
+      ap terms_of is ∙ made.terms ∙ ap (λ (n : ℕ). terms_on order (drop n placed)) zero',
+      subst (λ (ss : List Step). HaveBounds ss) (sym is) made.bounds,
+    )
+
+-- the terms so far are small
+pub sizes-on : (order : List Var) (placed : List (ℕ × ℤ)) (n : ℕ) → size_of (terms_on order (drop n placed)) ≤ size_of (terms_on order placed)
+sizes-on order placed zero = omega arith
+sizes-on order [] (suc n) = omega arith
+sizes-on order (p ∷ ps) (suc n) = let rest = sizes-on order ps n in let one = size-cons (variable_on order p.0, p.1) (terms_on order ps) in omega arith
+
+-- a term's variable is there
+pub term-there : (order : List Var) (terms : List Term) (i : ℕ) (d : Term) → i < length terms → All (λ (v : Var). IsIn order v.0) (variables_of terms) → IsIn order (get_or terms i d).0.0
+term-there order [] i d inside all = absurd (omega arith)
+term-there order (t ∷ ts) zero d inside all = All-head (λ (v : Var). IsIn order v.0) t.0 (variables_of ts) all
+term-there order (t ∷ ts) (suc i) d inside all = term-there order ts i d (omega arith) (All-tail (λ (v : Var). IsIn order v.0) t.0 (variables_of ts) all)
+
+wider : (l g : ℤ) (n m : ℕ) → n ≤ m → AreBounds l g n → AreBounds l g m
+wider l g n m few bounds = record {
+  from = let bottom = bounds.from in omega (arith, ints);
+  least_is = bounds.least_is;
+  greatest_is = bounds.greatest_is;
+  upto = let top = bounds.upto in omega (arith, ints);
+}
+
+-- with one more step the bounds are small too
+pub made-small : (order : List Var) (placed : List (ℕ × ℤ)) (steps : List Step) (least greatest : ℤ) (left left' : ℕ) (d : ℕ × ℤ)
+    → left' < length placed → left' + 1 ≡ left → AreMade order placed steps least greatest left → size_of (terms_on order placed) < 2 ^ 126
+    → AreBounds (least +ℤ int_min (get_or placed left' d).1 (pos 0)) (greatest +ℤ int_max (get_or placed left' d).1 (pos 0)) (2 ^ 126)
+made-small order placed steps least greatest left left' d inside one made small =
+    let t : Term = (variable_on order (get_or placed left' d).0, (get_or placed left' d).1) in
+    let split : terms_on order (drop left' placed) ≡ t ∷ terms_on order (drop left placed) = ap (terms_on order) (drop_more placed left' d inside) ∙ ap (λ (n : ℕ). t ∷ terms_on order (drop n placed)) one in
+    let bounds : AreBounds (least_total (t ∷ terms_on order (drop left placed))) (greatest_total (t ∷ terms_on order (drop left placed))) (size_of (terms_on order (drop left' placed)))
+    = subst (λ (ts : List Term). AreBounds (least_total ts) (greatest_total ts) (size_of (terms_on order (drop left' placed)))) split (bounds-are (terms_on order (drop left' placed))) in
+    let fewer = sizes-on order placed left' in
+    subst (λ (z : ℤ). AreBounds (least +ℤ int_min (get_or placed left' d).1 (pos 0)) (z +ℤ int_max (get_or placed left' d).1 (pos 0)) (2 ^ 126)) (sym made.greatest_is)
+    (subst (λ (z : ℤ). AreBounds (z +ℤ int_min (get_or placed left' d).1 (pos 0)) (greatest_total (terms_on order (drop left placed)) +ℤ int_max (get_or placed left' d).1 (pos 0)) (2 ^ 126)) (sym made.least_is)
+    (wider _ _ (size_of (terms_on order (drop left' placed))) (2 ^ 126) (omega arith) bounds))
+
+-- one more step, by its fields
+pub made-step : (order : List Var) (placed : List (ℕ × ℤ)) (old new : List Step) (least greatest : ℤ) (left left' : ℕ) (d : ℕ × ℤ) (v : Var) (w l g least' greatest' : ℤ)
+    → left' < length placed → left' + 1 ≡ left → AreMade order placed old least greatest left
+    → new ≡ old ++ (record { var = v; weight = w; least = l; greatest = g }) ∷ []
+    → v ≡ variable_on order (get_or placed left' d).0 → w ≡ (get_or placed left' d).1
+    → l ≡ least +ℤ int_min (get_or placed left' d).1 (pos 0) → g ≡ greatest +ℤ int_max (get_or placed left' d).1 (pos 0) → least' ≡ l → greatest' ≡ g
+    → AreMade order placed new least' greatest' left'
+made-step order placed old new least greatest left left' d v w l g least' greatest' inside one made is var weight low high same_low same_high =
+    subst (λ (z : ℤ). AreMade order placed new z greatest' left') (sym same_low)
+    (subst (λ (z : ℤ). AreMade order placed new l z left') (sym same_high)
+    (made-more order placed old new least greatest left left' d (record { var = v; weight = w; least = l; greatest = g }) inside one made is var weight
+    (low ∙ ap (λ (z : ℤ). least +ℤ int_min z (pos 0)) (sym weight)) (high ∙ ap (λ (z : ℤ). greatest +ℤ int_max z (pos 0)) (sym weight))))
+
+-- the plan of a sum
+pub plan-is : (order : List Var) (how : Cmp3) (terms terms' : List Term) (constant : ℤ) (placed placed' : List (ℕ × ℤ)) (exact : Bool) (start start' : ℤ) (steps : Vec Step Global)
+    → terms' ≡ terms → placed' ≡ placed → ArePlaced order terms' placed → terms_of steps.items ≡ terms_on order placed' → ArePlanned order steps.items
+    → start' ≡ start → unsigned_abs start ≤ unsigned_abs constant + 1 → unsigned_abs constant + size_of terms < 2 ^ 126
+    → ((t : ℤ) → meets exact (start +ℤ t) ≡ compares how (constant +ℤ t))
+    → IsPlanOf order how terms constant (record { exact = exact; start = start'; steps = steps })
+plan-is order how terms terms' constant placed placed' exact start start' steps same_terms same_placed are is planned same few small start_is =
+    let are' : ArePlaced order terms placed = subst (λ (ts : List Term). ArePlaced order ts placed) same_terms are in
+    let is' : terms_of steps.items ≡ terms_on order placed = is ∙ ap (terms_on order) same_placed in
+    let size : size_of (terms_of steps.items) ≡ size_of terms = ap size_of is' ∙ are'.size in
+    let first : unsigned_abs start' ≡ unsigned_abs start = ap unsigned_abs same in
+    record {
+      planned = planned;
+      small = omega arith;
+      total_is = λ a. ap (λ (ts : List Term). total ts a) is' ∙ are'.total_is a;
+      start_is = λ t. ap (λ (z : ℤ). meets exact (z +ℤ t)) same ∙ start_is t;
+    }

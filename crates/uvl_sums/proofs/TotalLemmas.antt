@@ -1,10 +1,11 @@
 -- Totals of terms: where a variable has no say, what fixing one makes of them, and between which bounds they lie.
 use Rattle.std.proofs.Common.{◌≡◌, ◌==◌, ℕ, zero, suc, ◌+◌, ◌^◌, ◌<◌, ◌≤◌, ℤ, pos, negsuc, ◌+ℤ◌, ◌-ℤ◌, ◌≤ℤ◌, ◌<ℤ◌, Bool, true, false, if◌then◌else◌, List, [], ◌∷◌, refl, ap, sym, ◌∙◌, subst, arith}
-use Rattle.std.specs.Prelude.{unsigned_abs}
+use Rattle.std.specs.Prelude.{◌-◌, unsigned_abs, FitsSigned}
+use mir.Syntax.{w128}
 use Rattle.std.specs.Int.{int_min, int_max}
 use Rattle.std.specs.List.{Contains}
 use Rattle.std.proofs.lemmas.Bool.{eq-eqb, ne_eqb}
-use Rattle.std.proofs.lemmas.Int.{ints, clamps}
+use Rattle.std.proofs.lemmas.Int.{ints, clamps, fits_signed_from_abs}
 use Rattle.std.proofs.lemmas.List.Sums.{sum_by-cons}
 use Rattle.dd_store.specs.declared.row.Var.{Var}
 use Rattle.dd_store.specs.Follow.{with_value}
@@ -150,3 +151,10 @@ small-low t ts s small = let size = size-cons t ts in omega arith
 
 pub small-high : (t : Term) (ts : List Term) (s : ℤ) → IsSmall (t ∷ ts) s → IsSmall ts (s +ℤ t.1)
 small-high t ts s small = let size = size-cons t ts in let both = sum-size s t.1 in omega arith
+
+-- what is no further from 0 fits
+pub fits-small : (z : ℤ) → (pos 0 -ℤ pos (2 ^ 126)) ≤ℤ z → z ≤ℤ pos (2 ^ 126) → FitsSigned w128 z
+fits-small z from upto = fits_signed_from_abs w128 z (let size = size-most z (2 ^ 126) (record { from = from; upto = upto }) in omega arith)
+
+pub fits-wide : (z : ℤ) → (pos 0 -ℤ pos (2 ^ 127 - 1)) ≤ℤ z → z ≤ℤ pos (2 ^ 127 - 1) → FitsSigned w128 z
+fits-wide z from upto = fits_signed_from_abs w128 z (let size = size-most z (2 ^ 127 - 1) (record { from = from; upto = upto }) in omega arith)

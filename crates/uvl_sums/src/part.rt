@@ -67,6 +67,8 @@ fn known_part(
     ensures known { AreKnown kernel.new held.new.items plan.now.exact plan.now.steps.items memo.now.known }
     ensures adds { Adds kernel.old held.old.items kernel.new held.new.items
         (remaining plan.now.exact (terms_from plan.now.steps.items at) so_far) 2 }
+    ensures none { IfOk result (λ known. IfNone known (Adds kernel.old held.old.items kernel.new held.new.items
+        (remaining plan.now.exact (terms_from plan.now.steps.items at) so_far) 1)) }
 {
     // The table is sound also where nothing is done.
     let _order = kernel.order();
