@@ -1,5 +1,5 @@
 -- Down both halves of what is left, and back: what is added on the way, and why a refusal there is one of the whole.
-use Rattle.std.proofs.Common.{◌≡◌, ℕ, suc, ◌+◌, ◌-◌, ◌*◌, ◌^◌, ◌<◌, ◌≤◌, ℤ, ◌+ℤ◌, Bool, List, length, get_or, ap, sym, ◌∙◌, subst, arith}
+use Rattle.std.proofs.Common.{◌≡◌, ℕ, suc, ◌+◌, ◌-◌, ◌*◌, ◌^◌, ◌<◌, ◌≤◌, ℤ, ◌+ℤ◌, Bool, List, length, get_or, ap, sym, ◌∙◌, subst, refl, arith}
 use Rattle.std.proofs.Math.Nat.{pow-suc}
 use Rattle.std.proofs.lemmas.Nat.{pow_pos}
 use Rattle.std.specs.List.{Contains}
@@ -36,6 +36,10 @@ whole-few x y some is = omega arith
 
 some-power : (n : ℕ) → 0 < 2 ^ n
 some-power n = pow_pos n
+
+-- there is always room for one
+pub two-fit : (n : ℕ) → 2 ≤ 2 ^ (n + 1)
+two-fit n = let double' : 2 ^ (n + 1) ≡ 2 ^ n * 2 = ap (λ (k : ℕ). 2 ^ k) (let one : n + 1 ≡ suc n = omega arith in one) ∙ pow-suc 2 n in let some = some-power n in omega arith
 
 module _ (t k l g : Table) (H HK HL HG : List ℕ) (steps : List Step) (at : ℕ) (read : Step) (inside : at < length steps) (planned : ArePlanned t.order steps) (is : read ≡ get_or steps at read)
     (exact : Bool) (s s' : ℤ) (s_is : s' ≡ s +ℤ read.weight) where

@@ -1,5 +1,5 @@
 -- Parts of a comparison: what stays of them, and how a part is made of its halves.
-use Rattle.std.proofs.Common.{◌≡◌, ◌⊎◌, ℕ, zero, suc, ◌+◌, ◌*◌, ◌^◌, ◌<◌, ◌≤◌, ℤ, pos, ◌+ℤ◌, ◌-ℤ◌, ◌≤ℤ◌, Bool, true, false, cond, to_z, of_z, List, [], ◌∷◌, length, drop, get_or, slice_index, Option, Some, None, IfSome, IfNone, ◌<ℤ◌, refl, ap, sym, ◌∙◌, subst, inl, inr, arith}
+use Rattle.std.proofs.Common.{◌≡◌, ◌⊎◌, ℕ, zero, suc, ◌+◌, ◌*◌, ◌^◌, ◌<◌, ◌≤◌, ℤ, pos, ◌+ℤ◌, ◌-ℤ◌, ◌≤ℤ◌, Bool, true, false, cond, to_z, of_z, List, [], ◌∷◌, length, drop, get_or, slice_index, Option, Some, None, IfSome, IfNone, Result, Ok, Err, IfErr, ◌<ℤ◌, refl, ap, sym, ◌∙◌, subst, inl, inr, arith}
 use Rattle.std.specs.BTreeMap.{BTreeMap, get}
 use Rattle.std.specs.Int.{int_min, int_max}
 use Rattle.std.specs.List.{All, Contains}
@@ -8,6 +8,7 @@ use Rattle.std.proofs.lemmas.Int.{ints, clamps, to_z-of_z}
 use mir.Syntax.{w128}
 use Rattle.std.proofs.lemmas.List.{drop_more, length-map}
 use Rattle.std.proofs.lemmas.List.Elements.{All-head, All-tail}
+use Rattle.dd_store.specs.declared.refusal.Refusal.{Refusal}
 use Rattle.dd_store.specs.declared.row.Var.{Var}
 use Rattle.dd_store.specs.Exhausted.{value_at}
 use Rattle.dd_store.specs.Law.{DependsOnNoneAbove}
@@ -383,3 +384,55 @@ step-left steps at l g least greatest less = elim (none-left steps at) [
 pub settles-at : (exact : Bool) (s s' l l' g g' : ℤ) (settled : Settled) → s' ≡ s → l' ≡ l → g' ≡ g → Settles exact s' l' g' settled → Settles exact s l g settled
 settles-at exact s s' l l' g g' settled one two three is =
     subst (λ (z : ℤ). Settles exact z l g settled) one (subst (λ (z : ℤ). Settles exact s' z g settled) two (subst (λ (z : ℤ). Settles exact s' l' z settled) three is))
+
+-- small numbers in other words
+pub small-same : (s s' l l' g g' : ℤ) → s' ≡ s → l' ≡ l → g' ≡ g → AreSmall s l g → AreSmall s' l' g'
+small-same s s' l l' g g' one two three is =
+    subst (λ (z : ℤ). AreSmall z l' g') (sym one) (subst (λ (z : ℤ). AreSmall s z g') (sym two) (subst (λ (z : ℤ). AreSmall s l z) (sym three) is))
+
+-- a small bound in other words
+pub bound-is : (z l : ℤ) → z ≡ l → (pos 0 -ℤ pos (2 ^ 126)) ≤ℤ l → l ≤ℤ pos (2 ^ 126) → to_z w128 (of_z w128 z) ≡ l
+bound-is z l is from upto = to_z-of_z w128 z (subst (λ (y : ℤ). FitsSigned w128 y) (sym is) (fits-small l from upto)) ∙ is
+
+pub least-bound : (s l g z : ℤ) → AreSmall s l g → z ≡ l → to_z w128 (of_z w128 z) ≡ l
+least-bound s l g z small is = bound-is z l is (let one = small.least_small in omega (arith, ints)) (let one = small.least_is in omega (arith, ints))
+
+pub greatest-bound : (s l g z : ℤ) → AreSmall s l g → z ≡ g → to_z w128 (of_z w128 z) ≡ g
+greatest-bound s l g z small is = bound-is z g is (let one = small.greatest_is in omega (arith, ints)) (let one = small.greatest_small in omega (arith, ints))
+
+-- a constant as a part, its interval in other words
+pub settled-told : (u : Table) (held : List ℕ) (exact : Bool) (terms : List Term) (s : ℤ) (settled : Settled) (place : ℕ)
+    → AreSmall s (least_total terms) (greatest_total terms) → Settles exact s (least_total terms) (greatest_total terms) settled → HasValueAt u held place (λ (a : ℕ → Bool). settled.value)
+    → IsPartFor u held exact terms s (record { place = place; least = to_z w128 (of_z w128 settled.least); greatest = to_z w128 (of_z w128 settled.greatest) })
+settled-told u held exact terms s settled place small is has =
+    let one = is.interval in
+    let two = is.now in
+    let least : to_z w128 (of_z w128 settled.least) ≡ settled.least = to_z-of_z w128 settled.least (fits-small settled.least one.from (omega (arith, ints))) in
+    let greatest : to_z w128 (of_z w128 settled.greatest) ≡ settled.greatest = to_z-of_z w128 settled.greatest (fits-small settled.greatest (omega (arith, ints)) one.upto) in
+    subst (λ (z : ℤ). IsPartFor u held exact terms s (record { place = place; least = z; greatest = to_z w128 (of_z w128 settled.greatest) })) (sym least)
+    (subst (λ (z : ℤ). IsPartFor u held exact terms s (record { place = place; least = settled.least; greatest = z })) (sym greatest)
+    (settled-part u held exact terms s settled place is has))
+
+-- the sum so far with a weight
+module _ (s w : ℤ) (fits_s : FitsSigned w128 s) (small_w : IsOfSize w (2 ^ 126 - 1)) (sum : unsigned_abs (s +ℤ w) ≤ 2 ^ 126) where
+  same_sum : (to_z w128 (of_z w128 s) +ℤ to_z w128 (of_z w128 w)) ≡ (s +ℤ w)
+  same_sum =
+      ap (λ (z : ℤ). z +ℤ to_z w128 (of_z w128 w)) (to_z-of_z w128 s fits_s)
+      ∙ ap (λ (z : ℤ). s +ℤ z) (to_z-of_z w128 w (fits-small w (let bottom = small_w.from in omega (arith, ints)) (let top = small_w.upto in omega (arith, ints))))
+
+  pub added-fits : FitsSigned w128 (to_z w128 (of_z w128 s) +ℤ to_z w128 (of_z w128 w))
+  added-fits = subst (λ (z : ℤ). FitsSigned w128 z) (sym same_sum) (let own = own-size (s +ℤ w) in fits-small (s +ℤ w) (omega (arith, ints)) (omega (arith, ints)))
+
+  pub added-is : to_z w128 (of_z w128 (to_z w128 (of_z w128 s) +ℤ to_z w128 (of_z w128 w))) ≡ (s +ℤ w)
+  added-is = to_z-of_z w128 (to_z w128 (of_z w128 s) +ℤ to_z w128 (of_z w128 w)) added-fits ∙ same_sum
+
+-- what is said of an answer, at what it is
+pub some-of : (found : Option Part) (part : Part) (P : Part → Type 0) → found ≡ Some part → IfSome found P → P part
+some-of found part P is has = subst (λ (o : Option Part). IfSome o P) is has
+
+pub none-of : (found : Option Part) (P : Type 0) → found ≡ None → IfNone found P → P
+none-of found P is has = subst (λ (o : Option Part). IfNone o P) is has
+
+pub err-of : (result : Result Part Refusal) (P Q : Refusal → Type 0) → ((r : Refusal) → P r → Q r) → IfErr result P → IfErr result Q
+err-of (Ok part) P Q more is = tt
+err-of (Err r) P Q more is = more r is

@@ -39,13 +39,15 @@ pub(crate) fn part_from(
         (remaining plan.now.exact (terms_from plan.now.steps.items at) so_far)
         (2 ^ (length (terms_from plan.now.steps.items at) + 1))) }
 {
-    if let Some(part) = known_part(kernel, plan, at, so_far, held, memo)? {
-        return Ok(part);
+    match known_part(kernel, plan, at, so_far, held, memo)? {
+        Some(part) => Ok(part),
+        None => {
+            let weight = plan.steps[at].weight;
+            let low = part_from(kernel, alloc, plan, at + 1, so_far, held, memo)?;
+            let high = part_from(kernel, alloc, plan, at + 1, so_far + weight, held, memo)?;
+            join(kernel, alloc, plan, at, low, high, held, memo)
+        }
     }
-    let weight = plan.steps[at].weight;
-    let low = part_from(kernel, alloc, plan, at + 1, so_far, held, memo)?;
-    let high = part_from(kernel, alloc, plan, at + 1, so_far + weight, held, memo)?;
-    join(kernel, alloc, plan, at, low, high, held, memo)
 }
 
 /// The same, where it is a constant or known already.
