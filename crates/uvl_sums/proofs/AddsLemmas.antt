@@ -1,5 +1,5 @@
 -- What is held beside the live handles of before, over several calls, and why a refusal inside is one of the whole.
-use Rattle.std.proofs.Common.{◌≡◌, ◌⊎◌, ℕ, ◌+◌, ◌<◌, ◌≤◌, List, [], ◌∷◌, ◌++◌, length, get_or, slice_index, refl, ap, sym, ◌∙◌, subst, inl, inr, arith, append-nil, append_assoc, length-append}
+use Rattle.std.proofs.Common.{◌≡◌, ◌⊎◌, ℕ, ◌+◌, ◌<◌, ◌≤◌, List, [], ◌∷◌, ◌++◌, length, get_or, slice_index, ap, sym, ◌∙◌, subst, inl, inr, arith, append-nil, append_assoc, length-append}
 use Rattle.std.specs.List.{All, Contains}
 use Rattle.std.proofs.lemmas.Bool.{cases_lt, cases_eq}
 use Rattle.std.proofs.lemmas.List.{get_or_append_left, get_or_push, get_or_read, length_push}
@@ -9,12 +9,12 @@ use Rattle.dd_store.specs.declared.refusal.Refusal.TheVariants.{OverBudget, OutO
 use Rattle.dd_store.specs.declared.row.Var.{Var}
 use Rattle.dd_store.specs.Changes.{Keeps}
 use Rattle.dd_store.specs.Exhausted.{value_at, IsPartialResult}
-use Rattle.dd_store.specs.Handles.{GainsHandle, KeepsHandles, HoldsMore, one_on, count_on}
+use Rattle.dd_store.specs.Handles.{GainsHandle, KeepsHandles, count_on}
 use Rattle.dd_store.specs.Size.{Function, cofactors}
 use Rattle.dd_store.specs.Table.{Table, handles_on, IsLive}
 use Rattle.dd_store.proofs.ChangeLemmas.{keeps_then}
 use Rattle.dd_store.proofs.CofactorLemmas.{own-cofactor, cofactors-compose}
-use Rattle.dd_store.proofs.CountLemmas.{live_more, live_gained, one_on-itself}
+use Rattle.dd_store.proofs.CountLemmas.{live_more, one_on-itself}
 use Rattle.dd_store.proofs.HandleLemmas.{one_on-other}
 use Rattle.dd_store.proofs.StayLemmas.{value-kept}
 use Rattle.dd_apply.specs.Held.{IsWithin, IsCauseWithin}

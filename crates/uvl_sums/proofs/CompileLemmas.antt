@@ -1,7 +1,10 @@
 -- The whole of a comparison: what is given back, its value, and why it is refused.
-use Rattle.std.proofs.Common.{◌≡◌, ◌⊎◌, ℕ, zero, suc, ◌+◌, ◌*◌, ◌^◌, ◌<◌, ◌≤◌, ℤ, ◌+ℤ◌, Bool, List, [], ◌∷◌, ◌++◌, length, map, Option, Some, None, Result, Ok, Err, IfOk, IfErr, OnErr, refl, ap, sym, ◌∙◌, subst, arith}
+use Rattle.std.proofs.Common.{◌≡◌, ℕ, ◌+◌, ◌*◌, ◌^◌, ◌<◌, ◌≤◌, ℤ, ◌+ℤ◌, Bool, List, [], ◌∷◌, ◌++◌, length, Some, None, Result, Ok, Err, IfOk, IfErr, OnErr, refl, ap, sym, ◌∙◌, subst, inl, arith}
+use Rattle.std.specs.Prelude.{FitsSigned}
 use Rattle.std.specs.BTreeMap.{BTreeMap, get}
-use Rattle.std.specs.List.{All}
+use Rattle.std.proofs.Math.Nat.{pow-le-pow_right}
+use Rattle.std.proofs.lemmas.Int.{fits_signed_from_abs}
+use mir.Syntax.{w128}
 use Rattle.std.proofs.lemmas.List.{length-map}
 use Rattle.std.proofs.lemmas.List.Elements.{All-map}
 use Rattle.dd_store.specs.declared.refusal.Refusal.{Refusal}
@@ -10,15 +13,15 @@ use Rattle.dd_store.specs.declared.row.Var.{Var}
 use Rattle.dd_store.specs.Changes.{Keeps, Grows}
 use Rattle.dd_store.specs.Exhausted.{value_at}
 use Rattle.dd_store.specs.Handles.{GainsHandle, KeepsHandles, HoldsMore, HoldsLess, one_on, count_on}
-use Rattle.dd_store.specs.Order.{level_in, IsIn}
+use Rattle.dd_store.specs.Order.{level_in}
 use Rattle.dd_store.specs.Size.{Function}
 use Rattle.dd_store.specs.Table.{Table, handles_on, value_of, IsLive, IsSound}
-use Rattle.dd_store.proofs.ChangeLemmas.{keeps_then}
+use Rattle.dd_store.proofs.ChangeLemmas.{keeps_then, keeps_all}
 use Rattle.dd_store.proofs.CofactorLemmas.{own-cofactor}
 use Rattle.dd_store.proofs.CountLemmas.{live_more, one_on-itself, count_on-push, length-push}
-use Rattle.dd_apply.specs.Held.{IsCauseWithin}
+use Rattle.dd_apply.specs.Held.{IsWithin, IsCauseWithin}
 use Rattle.dd_apply.proofs.RightLemmas.{same-values}
-use Rattle.dd_apply.proofs.RoomLemmas.{within-self, cause-stay}
+use Rattle.dd_apply.proofs.RoomLemmas.{cause-stay}
 use Rattle.dd_count.proofs.CountedLemmas.{falling-few}
 use Rattle.dd_count.specs.States.{AreHeld}
 use Rattle.uvl_sums.specs.declared.linear.Cmp3.{Cmp3}
@@ -26,8 +29,12 @@ use Rattle.uvl_sums.specs.declared.memo.Known.{Known}
 use Rattle.uvl_sums.specs.declared.steps.Plan.{Plan}
 use Rattle.uvl_sums.specs.declared.steps.Step.{Step}
 use Rattle.uvl_sums.specs.Parts.{Adds, AreKnown, key_cmp}
-use Rattle.uvl_sums.specs.Steps.{terms_of, levels_of, meets, remaining, AreSorted, IsPlanOf}
+use Rattle.uvl_sums.specs.Steps.{term_of, terms_of, levels_of, remaining, AreSorted, ArePlanned, IsPlanOf, IsSmall}
 use Rattle.uvl_sums.specs.Sums.{Term, total, compares, comparison, IsCauseOfSum}
+
+-- a call that begins
+begun : (t : Table) (asked : Function) → IsSound t → IsWithin t t asked
+begun t asked sound = record { keeps = keeps_all t sound; stay = λ n live. live; held = λ n live. inl live }
 
 -- all that is held can be given back
 pub all-live : (old mid : Table) (held : List ℕ) (result : Result ℕ Refusal) → IfOk result (λ h. HoldsMore old mid (held ++ h ∷ [])) → OnErr result (HoldsMore old mid held)
@@ -75,7 +82,7 @@ module _ (old mid new : Table) (held : List ℕ) (less : HoldsLess mid new held)
       by : (r : Refusal) → IsCauseWithin old new f most r → IsCauseOfSum old new g r
       by (OverBudget nodes roots) lacks =
           subst (λ (k : Function). IsCauseOfSum old new k (OverBudget nodes roots)) same
-          (lacks old f (2 ^ (length old.order + 1) + 2 * (length old.order + 1)) (within-self old f sound) (own-cofactor old.order f) (omega arith))
+          (lacks old f (2 ^ (length old.order + 1) + 2 * (length old.order + 1)) (begun old f sound) (own-cofactor old.order f) (omega arith))
       by OutOfMemory lacks = tt
 
 -- the plan has the value of the comparison
@@ -109,3 +116,22 @@ held-still old mid new held more same = record {
   each = λ n. let one = more.each n in let two = same.each n in omega arith;
   total = let one = more.total in let two = same.total in omega arith;
 }
+
+-- so few partial results are held at most
+pub few-steps : (order : List Var) (steps : List Step) → ArePlanned order steps → 2 ^ (length steps + 1) ≤ 2 ^ (length order + 1) + 2 * (length order + 1)
+few-steps order steps planned =
+    let size = length-map steps term_of in
+    let few = few-terms order (terms_of steps) planned.sorted in
+    let power : 2 ^ (length steps + 1) ≤ 2 ^ (length order + 1) = pow-le-pow_right (omega arith) (omega arith) in
+    omega arith
+
+-- a cause in other words
+pub cause-told : (t u : Table) (exact : Bool) (steps : List Step) (s s' : ℤ) (r : Refusal) → s' ≡ s
+    → IsCauseWithin t u (remaining exact (terms_of steps) s') (2 ^ (length (terms_of steps) + 1)) r → IsCauseWithin t u (remaining exact (terms_of steps) s) (2 ^ (length steps + 1)) r
+cause-told t u exact steps s s' r same cause =
+    subst (λ (z : ℤ). IsCauseWithin t u (remaining exact (terms_of steps) z) (2 ^ (length steps + 1)) r) same
+    (subst (λ (n : ℕ). IsCauseWithin t u (remaining exact (terms_of steps) s') (2 ^ (n + 1)) r) (length-map steps term_of) cause)
+
+-- a start that is small fits
+pub start-fits : (terms : List Term) (s : ℤ) → IsSmall terms s → FitsSigned w128 s
+start-fits terms s small = fits_signed_from_abs w128 s (omega arith)

@@ -1,10 +1,9 @@
 -- Down both halves of what is left, and back: what is added on the way, and why a refusal there is one of the whole.
-use Rattle.std.proofs.Common.{◌≡◌, ℕ, suc, ◌+◌, ◌-◌, ◌*◌, ◌^◌, ◌<◌, ◌≤◌, ℤ, ◌+ℤ◌, Bool, List, length, get_or, ap, sym, ◌∙◌, subst, refl, arith}
+use Rattle.std.proofs.Common.{◌≡◌, ℕ, suc, ◌+◌, ◌-◌, ◌*◌, ◌^◌, ◌<◌, ◌≤◌, ℤ, ◌+ℤ◌, Bool, List, length, get_or, ap, sym, ◌∙◌, subst, arith}
 use Rattle.std.proofs.Math.Nat.{pow-suc}
 use Rattle.std.proofs.lemmas.Nat.{pow_pos}
 use Rattle.std.specs.List.{Contains}
 use Rattle.dd_store.specs.declared.refusal.Refusal.{Refusal}
-use Rattle.dd_store.specs.declared.row.Var.{Var}
 use Rattle.dd_store.specs.Size.{Function, cofactors}
 use Rattle.dd_store.specs.Table.{Table}
 use Rattle.dd_store.proofs.CofactorLemmas.{own-cofactor}
@@ -13,7 +12,7 @@ use Rattle.dd_count.specs.States.{AreHeld}
 use Rattle.uvl_sums.specs.declared.memo.Part.{Part}
 use Rattle.uvl_sums.specs.declared.steps.Step.{Step}
 use Rattle.uvl_sums.specs.Parts.{Adds, IsPartFor, AreHalves}
-use Rattle.uvl_sums.specs.Steps.{terms_from, weight_at, remaining, ArePlanned}
+use Rattle.uvl_sums.specs.Steps.{terms_from, remaining, ArePlanned}
 use Rattle.uvl_sums.specs.Sums.{Term}
 use Rattle.uvl_sums.proofs.AddsLemmas.{adds-then, cause-then, held-stays}
 use Rattle.uvl_sums.proofs.PartLemmas.{length-more, low-is-part, read-high-part, read-weight, part-for-stays}

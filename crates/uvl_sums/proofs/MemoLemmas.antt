@@ -1,5 +1,5 @@
 -- Looking a part up, and noting one.
-use Rattle.std.proofs.Common.{◌≡◌, ◌⊎◌, ℕ, ℤ, Bool, true, false, cond, Option, Some, None, Ordering, Less, Equal, Greater, refl, ap, sym, ◌∙◌, inl, inr}
+use Rattle.std.proofs.Common.{◌≡◌, ◌⊎◌, ℕ, ℤ, Bool, true, false, cond, Some, Ordering, Less, Equal, Greater, refl, ap, sym, ◌∙◌, inl, inr}
 use Rattle.std.specs.BTreeMap.{BTreeMap, get, is_at}
 use Rattle.std.specs.Ordering.{nat_cmp, int_cmp, is_eq}
 use Rattle.std.proofs.lemmas.Bool.{false≢true}

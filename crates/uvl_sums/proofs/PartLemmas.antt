@@ -1,12 +1,12 @@
 -- Parts of a comparison: what stays of them, and how a part is made of its halves.
-use Rattle.std.proofs.Common.{◌≡◌, ◌⊎◌, ℕ, zero, suc, ◌+◌, ◌*◌, ◌^◌, ◌<◌, ◌≤◌, ℤ, pos, ◌+ℤ◌, ◌-ℤ◌, ◌≤ℤ◌, Bool, true, false, cond, to_z, of_z, List, [], ◌∷◌, length, drop, get_or, slice_index, Option, Some, None, IfSome, IfNone, Result, Ok, Err, IfErr, ◌<ℤ◌, refl, ap, sym, ◌∙◌, subst, inl, inr, arith}
+use Rattle.std.proofs.Common.{◌≡◌, ◌⊎◌, ℕ, zero, suc, ◌+◌, ◌^◌, ◌<◌, ◌≤◌, ℤ, pos, ◌+ℤ◌, ◌-ℤ◌, ◌≤ℤ◌, Bool, true, false, cond, to_z, of_z, List, [], ◌∷◌, length, get_or, slice_index, Option, Some, None, IfSome, IfNone, Result, Ok, Err, IfErr, ◌<ℤ◌, refl, ap, sym, ◌∙◌, subst, inl, inr, arith}
 use Rattle.std.specs.BTreeMap.{BTreeMap, get}
 use Rattle.std.specs.Int.{int_min, int_max}
 use Rattle.std.specs.List.{All, Contains}
 use Rattle.std.specs.Prelude.{◌-◌, int_lt, unsigned_abs, FitsSigned}
 use Rattle.std.proofs.lemmas.Int.{ints, clamps, to_z-of_z}
 use mir.Syntax.{w128}
-use Rattle.std.proofs.lemmas.List.{drop_more, length-map}
+use Rattle.std.proofs.lemmas.List.{drop_more}
 use Rattle.std.proofs.lemmas.List.Elements.{All-head, All-tail}
 use Rattle.dd_store.specs.declared.refusal.Refusal.{Refusal}
 use Rattle.dd_store.specs.declared.row.Var.{Var}
@@ -27,8 +27,8 @@ use Rattle.uvl_sums.specs.declared.memo.Part.{Part}
 use Rattle.uvl_sums.specs.declared.settle.Settled.{Settled}
 use Rattle.uvl_sums.specs.declared.steps.Step.{Step}
 use Rattle.uvl_sums.specs.Parts.{Adds, HasValueAt, IsPart, IsPartFor, AreHalves, AreKnown, key_cmp, part_under}
-use Rattle.uvl_sums.specs.Settled.{IsBetween, IsInterval, AreSmall, Settles}
-use Rattle.uvl_sums.specs.Steps.{term_of, terms_of, terms_from, weight_at, levels_of, least_total, greatest_total, HaveBounds, AreSorted, ArePlanned, meets, remaining, IsSmall}
+use Rattle.uvl_sums.specs.Settled.{IsBetween, AreSmall, Settles}
+use Rattle.uvl_sums.specs.Steps.{term_of, terms_of, terms_from, weight_at, levels_of, least_total, greatest_total, HaveBounds, ArePlanned, remaining, IsSmall}
 use Rattle.uvl_sums.specs.Sums.{Term, total, size_of}
 use Rattle.dd_store.proofs.ChangeLemmas.{keeps_all}
 use Rattle.uvl_sums.proofs.AddsLemmas.{adds-none, value-stays}

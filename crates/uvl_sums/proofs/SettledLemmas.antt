@@ -1,10 +1,9 @@
 -- The three ways in which a comparison is constant.
-use Rattle.std.proofs.Common.{◌≡◌, ◌^◌, ℤ, pos, ◌+ℤ◌, ◌-ℤ◌, ◌≤ℤ◌, ◌<ℤ◌, Bool, true, false, ◌&&◌, arith}
+use Rattle.std.proofs.Common.{◌≡◌, ◌^◌, ℤ, pos, ◌+ℤ◌, ◌-ℤ◌, ◌≤ℤ◌, ◌<ℤ◌, Bool, true, false, arith}
 use Rattle.std.specs.Prelude.{int_le}
 use Rattle.std.proofs.lemmas.Bool.{and_from, and_left, and_right}
 use Rattle.std.proofs.lemmas.Int.{ints}
-use Rattle.uvl_sums.specs.declared.settle.Settled.{Settled}
-use Rattle.uvl_sums.specs.Settled.{IsBetween, IsInterval, AreSmall, Settles}
+use Rattle.uvl_sums.specs.Settled.{AreSmall, Settles}
 use Rattle.uvl_sums.specs.Steps.{meets}
 
 at-most : (s t g : ℤ) → (s +ℤ g) ≤ℤ pos 0 → t ≤ℤ g → int_le (s +ℤ t) (pos 0) ≡ true

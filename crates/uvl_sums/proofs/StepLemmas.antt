@@ -1,12 +1,12 @@
 -- The terms of a sum by the levels of their variables, sorted, and the steps made of them.
-use Rattle.std.proofs.Common.{◌≡◌, ◌==◌, ℕ, zero, suc, ◌+◌, ◌^◌, ◌<◌, ◌≤◌, ℤ, pos, Vec, Global, negsuc, ◌+ℤ◌, ◌-ℤ◌, Bool, true, false, if◌then◌else◌, List, [], ◌∷◌, ◌++◌, length, map, reverse, take, drop, get_or, refl, ap, sym, ◌∙◌, subst, arith}
+use Rattle.std.proofs.Common.{◌≡◌, ◌==◌, ℕ, zero, suc, ◌+◌, ◌^◌, ◌<◌, ◌≤◌, ℤ, pos, Vec, Global, negsuc, ◌+ℤ◌, Bool, true, false, if◌then◌else◌, List, [], ◌∷◌, ◌++◌, length, map, reverse, take, drop, get_or, refl, ap, sym, ◌∙◌, subst, arith}
 use Rattle.std.specs.Int.{int_min, int_max}
 use Rattle.std.specs.List.{All, sum_by}
 use Rattle.std.specs.List.Sorted.{IsPermutation, IsNonDecreasingBy}
 use Rattle.std.specs.Prelude.{unsigned_abs}
 use Rattle.std.proofs.lemmas.Int.{ints}
 use Rattle.std.proofs.lemmas.List.{take_more, drop_more, drop_all, map-append, length-map, get_or-map, reverse-append}
-use Rattle.std.proofs.lemmas.List.Elements.{All-head, All-tail, All-cons, All-nil, All-map}
+use Rattle.std.proofs.lemmas.List.Elements.{All-head, All-tail, All-cons, All-nil}
 use Rattle.std.proofs.lemmas.List.Sorted.{All-permutation, IsPermutation-map, sum_by-IsPermutation}
 use Rattle.std.proofs.lemmas.List.Sums.{sum_by-cons}
 use Rattle.dd_store.specs.declared.row.Var.{Var}
@@ -16,7 +16,7 @@ use Rattle.dd_count.proofs.CountedLemmas.{level-on}
 use Rattle.dd_count.proofs.LevelsLemmas.{levels_in, on-levels, once, falling}
 use Rattle.uvl_sums.specs.declared.linear.Cmp3.{Cmp3}
 use Rattle.uvl_sums.specs.declared.steps.Step.{Step}
-use Rattle.uvl_sums.specs.Steps.{term_of, terms_of, levels_of, terms_on, least_total, greatest_total, HaveBounds, AreSorted, ArePlaced, ArePlanned, IsPlanOf, meets}
+use Rattle.uvl_sums.specs.Steps.{term_of, terms_of, levels_of, terms_on, least_total, greatest_total, HaveBounds, ArePlaced, ArePlanned, IsPlanOf, meets}
 use Rattle.uvl_sums.specs.Sums.{Term, total, size_of, variables_of, compares}
 use Rattle.uvl_sums.proofs.TotalLemmas.{AreBounds, bounds-are, size-cons}
 

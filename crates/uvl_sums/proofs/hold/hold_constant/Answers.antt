@@ -1,5 +1,5 @@
 -- One handle more is held, on the constant.
-use Rattle.std.proofs.Common.{◌≡◌, ℕ, [], ◌∷◌, ◌++◌, List, ap, ◌∙◌}
+use Rattle.std.proofs.Common.{ℕ, [], ◌∷◌, ◌++◌, List, ap, ◌∙◌}
 use Rattle.uvl_sums.proofs.AddsLemmas.{adds-one}
 use Rattle.uvl_sums.proofs.hold.hold_constant.Goals as goal
 

@@ -1,10 +1,8 @@
 -- One handle more is held, on the fork.
-use Rattle.std.proofs.Common.{◌≡◌, ℕ, Bool, List, [], ◌∷◌, ◌++◌, length, slice_index, ap, sym, ◌∙◌, subst, arith}
+use Rattle.std.proofs.Common.{◌≡◌, ℕ, List, [], ◌∷◌, ◌++◌, length, slice_index, ap, sym, ◌∙◌, subst, arith}
 use Rattle.std.proofs.lemmas.Result.{err_from_is_err_and}
 use Rattle.dd_store.specs.Exhausted.{value_at, IsCauseFor}
-use Rattle.dd_store.specs.Size.{Function}
 use Rattle.dd_store.specs.Table.{IsLive, row_with}
-use Rattle.dd_apply.specs.Held.{IsCauseWithin}
 use Rattle.dd_apply.specs.Split.{fork}
 use Rattle.dd_count.proofs.StatesLemmas.{held-live, fork-cause}
 use Rattle.uvl_sums.proofs.AddsLemmas.{place-read, adds-none, adds-one, value-last}

@@ -1,5 +1,5 @@
 -- Down both halves, from the tables of the calls in turn, and back.
-use Rattle.std.proofs.Common.{◌≡◌, ◌+◌, ◌-◌, ◌^◌, ◌<◌, ◌≤◌, ℤ, ◌+ℤ◌, List, length, refl, sym, subst, arith, to_z, of_z}
+use Rattle.std.proofs.Common.{◌+◌, ◌^◌, ◌<◌, ℤ, ◌+ℤ◌, List, length, refl, sym, subst, arith, to_z, of_z}
 use Rattle.std.proofs.lemmas.Int.{to_z-of_z}
 use Rattle.std.proofs.lemmas.Result.{err_from_is_err_and}
 use mir.Syntax.{w128}
@@ -45,12 +45,15 @@ pub part_from-requires : goal.part_from-requires
 part_from-requires t c =
     let inside = none-of c.in_ok-part.field-0 (c.args.at < length c.args.plan.now.steps.items) c.in-None.is c.in_ok-part.ensures.left in
     let first = subst (λ (z : ℤ). Adds c.args.kernel.now c.args.held.now.items c.known_part.new.kernel c.known_part.new.held.items (remaining c.args.plan.now.exact (terms_from c.args.plan.now.steps.items c.args.at) z) 1) (to_z-of_z w128 c.args.so_far c.ranges.so_far)
-    (none-of c.in_ok-part.field-0 (Adds c.args.kernel.now c.args.held.now.items c.known_part.new.kernel c.known_part.new.held.items (remaining c.args.plan.now.exact (terms_from c.args.plan.now.steps.items c.args.at) (to_z w128 (of_z w128 c.args.so_far))) 1) c.in-None.is c.in_ok-part.ensures.none) in
-    (
+    (none-of c.in_ok-part.field-0 (Adds c.args.kernel.now c.args.held.now.items c.known_part.new.kernel c.known_part.new.held.items (remaining c.args.plan.now.exact (terms_from c.args.plan.now.steps.items c.args.at) (to_z w128 (of_z w128 c.args.so_far))) 1) c.in-None.is c.in_ok-part.ensures.none) in (
       omega arith,
-      (subst (λ (vs : List Var). ArePlanned vs c.args.plan.now.steps.items) (sym first.keeps.order) c.requires.planned,
-          (subst (λ (z : ℤ). IsSmall (terms_from c.args.plan.now.steps.items (c.args.at + 1)) z) (sym (to_z-of_z w128 c.args.so_far c.ranges.so_far)) (small-behind c.args.kernel.now.order c.args.plan.now.steps.items c.args.at c.index.result.now inside c.requires.planned c.args.so_far c.requires.small),
-          (held-stays c.args.kernel.now c.known_part.new.kernel c.args.held.now.items c.known_part.new.held.items (remaining c.args.plan.now.exact (terms_from c.args.plan.now.steps.items c.args.at) c.args.so_far) 1 first c.requires.held, c.known_part.ensures.known))),
+      (
+        subst (λ (vs : List Var). ArePlanned vs c.args.plan.now.steps.items) (sym first.keeps.order) c.requires.planned,
+        (
+          subst (λ (z : ℤ). IsSmall (terms_from c.args.plan.now.steps.items (c.args.at + 1)) z) (sym (to_z-of_z w128 c.args.so_far c.ranges.so_far)) (small-behind c.args.kernel.now.order c.args.plan.now.steps.items c.args.at c.index.result.now inside c.requires.planned c.args.so_far c.requires.small),
+          (held-stays c.args.kernel.now c.known_part.new.kernel c.args.held.now.items c.known_part.new.held.items (remaining c.args.plan.now.exact (terms_from c.args.plan.now.steps.items c.args.at) c.args.so_far) 1 first c.requires.held, c.known_part.ensures.known),
+        ),
+      ),
     )
 
 pub returns-in_err-low-in-None-clause-adds : goal.returns-in_err-low-in-None-clause-adds
@@ -86,12 +89,15 @@ part_from-requires-in-None t c =
     let two = subst (λ (z : ℤ). Adds c.known_part.new.kernel c.known_part.new.held.items c.part_from.new.kernel c.part_from.new.held.items (remaining c.args.plan.now.exact (terms_from c.args.plan.now.steps.items (c.args.at + 1)) z) (2 ^ (length (terms_from c.args.plan.now.steps.items (c.args.at + 1)) + 1))) (to_z-of_z w128 c.args.so_far c.ranges.so_far) c.part_from.ensures.adds in
     let weight = weight-small c.args.kernel.now.order c.args.plan.now.steps.items c.args.at c.index.result.now inside c.requires.planned c.index.ensures in
     let small = read-small c.args.kernel.now.order c.args.plan.now.steps.items c.args.at c.index.result.now inside c.requires.planned c.index.ensures c.args.so_far c.requires.small in
-    let sum = added-is c.args.so_far c.index.result.now.weight c.ranges.so_far weight (omega arith) in
-    (
+    let sum = added-is c.args.so_far c.index.result.now.weight c.ranges.so_far weight (omega arith) in (
       omega arith,
-      (subst (λ (vs : List Var). ArePlanned vs c.args.plan.now.steps.items) (sym (low-adds c.args.kernel.now c.known_part.new.kernel c.part_from.new.kernel c.part_from.new.kernel c.args.held.now.items c.known_part.new.held.items c.part_from.new.held.items c.part_from.new.held.items c.args.plan.now.steps.items c.args.at c.index.result.now inside c.requires.planned c.index.ensures c.args.plan.now.exact c.args.so_far (c.args.so_far +ℤ c.index.result.now.weight) refl first two).keeps.order) c.requires.planned,
-          (subst (λ (z : ℤ). IsSmall (terms_from c.args.plan.now.steps.items (c.args.at + 1)) z) (sym sum) small,
-          (low-held c.args.kernel.now c.known_part.new.kernel c.part_from.new.kernel c.part_from.new.kernel c.args.held.now.items c.known_part.new.held.items c.part_from.new.held.items c.part_from.new.held.items c.args.plan.now.steps.items c.args.at c.index.result.now inside c.requires.planned c.index.ensures c.args.plan.now.exact c.args.so_far (c.args.so_far +ℤ c.index.result.now.weight) refl first two c.requires.held, c.part_from.ensures.known))),
+      (
+        subst (λ (vs : List Var). ArePlanned vs c.args.plan.now.steps.items) (sym (low-adds c.args.kernel.now c.known_part.new.kernel c.part_from.new.kernel c.part_from.new.kernel c.args.held.now.items c.known_part.new.held.items c.part_from.new.held.items c.part_from.new.held.items c.args.plan.now.steps.items c.args.at c.index.result.now inside c.requires.planned c.index.ensures c.args.plan.now.exact c.args.so_far (c.args.so_far +ℤ c.index.result.now.weight) refl first two).keeps.order) c.requires.planned,
+        (
+          subst (λ (z : ℤ). IsSmall (terms_from c.args.plan.now.steps.items (c.args.at + 1)) z) (sym sum) small,
+          (low-held c.args.kernel.now c.known_part.new.kernel c.part_from.new.kernel c.part_from.new.kernel c.args.held.now.items c.known_part.new.held.items c.part_from.new.held.items c.part_from.new.held.items c.args.plan.now.steps.items c.args.at c.index.result.now inside c.requires.planned c.index.ensures c.args.plan.now.exact c.args.so_far (c.args.so_far +ℤ c.index.result.now.weight) refl first two c.requires.held, c.part_from.ensures.known),
+        ),
+      ),
     )
 
 pub returns-in_err-high-in-None-clause-adds : goal.returns-in_err-high-in-None-clause-adds

@@ -1,5 +1,5 @@
 -- The fork of the halves is held, and noted with what is common to their intervals.
-use Rattle.std.proofs.Common.{◌≡◌, ◌+◌, ℕ, ℤ, ◌+ℤ◌, to_z, of_z, refl, ap, sym, ◌∙◌, subst, slice_index}
+use Rattle.std.proofs.Common.{◌+◌, ◌+ℤ◌, to_z, of_z, refl, subst, slice_index}
 use mir.Syntax.{w128}
 use Rattle.std.proofs.lemmas.Result.{err_from_is_err_and}
 use Rattle.dd_store.specs.Exhausted.{value_at}
@@ -35,7 +35,6 @@ pub hold_fork-requires-clause-above_high : goal.hold_fork-requires-clause-above_
 hold_fork-requires-clause-above_high c =
     read-high-below c.args.kernel.now.order c.args.plan.now.steps.items c.args.at c.index-step.result.now c.requires.at c.requires.planned c.index-step.ensures
     c.args.kernel.now c.args.held.now.items c.args.plan.now.exact c.args.low c.args.high c.requires.halves.0 c.order-order.ensures.sound refl c.requires.held c.requires.halves.1
-
 
 pub returns-in_err-place-clause-part : goal.returns-in_err-place-clause-part
 returns-in_err-place-clause-part c =
@@ -114,11 +113,11 @@ returns-clause-part c =
     let weight = weight-small c.args.kernel.now.order c.args.plan.now.steps.items c.args.at c.index-step.result.now c.requires.at c.requires.planned c.index-step.ensures in
     λ s halves. record {
       now = read-now c.args.kernel.now.order c.args.plan.now.steps.items c.args.at c.index-step.result.now c.requires.at c.requires.planned c.index-step.ensures
-    c.args.kernel.now c.args.held.now.items c.args.plan.now.exact c.args.low c.args.high s
+          c.args.kernel.now c.args.held.now.items c.args.plan.now.exact c.args.low c.args.high s
           (to_z w128 (of_z w128 c.max.result)) (to_z w128 (of_z w128 c.min.result)) halves (max-is c.args.low.least c.args.high.least c.index-step.result.now.weight low.least_from low.least_upto high.least_from high.least_upto weight c.max.result c.max.ensures.value) (min-is c.args.low.greatest c.args.high.greatest c.index-step.result.now.weight low.greatest_from low.greatest_upto high.greatest_from high.greatest_upto weight c.min.result c.min.ensures.value);
       part_is = read-part c.args.kernel.now.order c.args.plan.now.steps.items c.args.at c.index-step.result.now c.requires.at c.requires.planned c.index-step.ensures
-    c.args.kernel.now c.args.held.now.items c.args.plan.now.exact c.args.low c.args.high s
-    (to_z w128 (of_z w128 c.max.result)) (to_z w128 (of_z w128 c.min.result)) halves (max-is c.args.low.least c.args.high.least c.index-step.result.now.weight low.least_from low.least_upto high.least_from high.least_upto weight c.max.result c.max.ensures.value) (min-is c.args.low.greatest c.args.high.greatest c.index-step.result.now.weight low.greatest_from low.greatest_upto high.greatest_from high.greatest_upto weight c.min.result c.min.ensures.value) c.hold_fork.new.kernel c.hold_fork.new.held.items c.in_ok-place.place c.in_ok-place.ensures.value;
+          c.args.kernel.now c.args.held.now.items c.args.plan.now.exact c.args.low c.args.high s
+          (to_z w128 (of_z w128 c.max.result)) (to_z w128 (of_z w128 c.min.result)) halves (max-is c.args.low.least c.args.high.least c.index-step.result.now.weight low.least_from low.least_upto high.least_from high.least_upto weight c.max.result c.max.ensures.value) (min-is c.args.low.greatest c.args.high.greatest c.index-step.result.now.weight low.greatest_from low.greatest_upto high.greatest_from high.greatest_upto weight c.min.result c.min.ensures.value) c.hold_fork.new.kernel c.hold_fork.new.held.items c.in_ok-place.place c.in_ok-place.ensures.value;
     }
 
 pub returns-clause-known : goal.returns-clause-known

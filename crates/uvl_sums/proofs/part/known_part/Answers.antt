@@ -1,5 +1,5 @@
 -- A constant is held, or a part is looked up.
-use Rattle.std.proofs.Common.{◌≡◌, ◌<◌, ℤ, IfSome, length, subst, arith, to_z, of_z}
+use Rattle.std.proofs.Common.{◌<◌, ℤ, IfSome, length, subst, arith, to_z, of_z}
 use Rattle.std.proofs.lemmas.Int.{to_z-of_z}
 use mir.Syntax.{w128}
 use Rattle.dd_store.specs.Size.{Function}

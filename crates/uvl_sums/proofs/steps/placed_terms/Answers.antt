@@ -1,5 +1,5 @@
 -- Each term is placed, and then all are sorted.
-use Rattle.std.proofs.Common.{◌≡◌, ℕ, ℤ, pos, get_or, ap, refl, ◌∙◌, rules, arith, FitsSigned}
+use Rattle.std.proofs.Common.{ℕ, ℤ, pos, get_or, ap, ◌∙◌, rules, arith, FitsSigned}
 use Rattle.std.proofs.lemmas.Int.{ints}
 use Rattle.std.proofs.lemmas.List.{take_all}
 use Rattle.std.proofs.lemmas.List.Sorted.{IsNonDecreasingBy-from_sort_by_key}

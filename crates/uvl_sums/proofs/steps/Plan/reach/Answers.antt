@@ -1,5 +1,5 @@
 -- The bounds of the step at this place.
-use Rattle.std.proofs.Common.{◌≡◌, ◌<◌, List, length, get_or, arith, ap, sym, ◌∙◌, rules, FitsSigned}
+use Rattle.std.proofs.Common.{List, length, get_or, arith, ap, sym, ◌∙◌, rules, FitsSigned}
 use Rattle.std.proofs.lemmas.Bool.{ltb-true}
 use Rattle.std.proofs.lemmas.Int.{to_z-of_z}
 use mir.Syntax.{w128}
