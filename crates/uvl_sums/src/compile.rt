@@ -22,9 +22,9 @@ use std::alloc::Global;
 /// to less than 2^126.
 ///
 /// It goes down the terms from the top level. What is left of the comparison behind some of them is known by the sum so
-/// far, and is the same for all sums of an interval, which is kept: so it is made once for each node of the diagram, and
-/// at most twice as many nodes are asked for (Abío, Nieuwenhuis, Oliveras, Rodríguez-Carbonell and Mayer-Eichberger 2012).
-/// Below the least total and above the greatest that can be reached a constant is left.
+/// far, and is the same for all sums of an interval, which is kept with it: so it is made once for each such interval
+/// (Abío, Nieuwenhuis, Oliveras, Rodríguez-Carbonell and Mayer-Eichberger 2012). Below the least total and above the
+/// greatest that can be reached a constant is left.
 pub fn compile_sum(
     kernel: &mut Kernel,
     alloc: Global,
