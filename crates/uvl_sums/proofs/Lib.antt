@@ -1,0 +1,8 @@
+pub mod SettledLemmas
+pub mod TotalLemmas
+pub mod AddsLemmas
+pub mod PartLemmas
+pub mod DescendLemmas
+pub mod MemoLemmas
+pub mod StepLemmas
+pub mod CompileLemmas
