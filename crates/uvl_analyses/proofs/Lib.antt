@@ -1,0 +1,4 @@
+pub mod Variables
+pub mod Meaning
+pub mod Lists
+pub mod Examples

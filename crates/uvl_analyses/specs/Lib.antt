@@ -1,0 +1,4 @@
+pub mod Analyses
+pub mod Members
+pub mod Compiled
+pub mod Listed
