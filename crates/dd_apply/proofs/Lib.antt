@@ -9,3 +9,4 @@ pub mod JoinLemmas
 pub mod CombineLemmas
 pub mod ChooseLemmas
 pub mod ImplyLemmas
+pub mod FewLemmas

@@ -4,6 +4,7 @@ pub mod Cause
 pub mod Held
 pub mod Kept
 pub mod Made
+pub mod Laws
 pub mod Room
 pub mod Settled
 pub mod Split

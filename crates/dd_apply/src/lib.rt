@@ -2,9 +2,11 @@
 #![tactic(auto)]
 
 mod kernel;
+mod laws;
 mod operation;
 mod question;
 mod results;
 
 pub use kernel::Kernel;
+pub use laws::room_keeps_nodes;
 pub use results::MOST_RESULTS;
