@@ -3,6 +3,7 @@ import itertools
 
 from .faults import NAMES
 from .files import FileFault
+from .lexing import RESERVED, identifier_at
 from .placing import model_of
 from .script import WORD
 from .syntax import dotted, features_of
@@ -51,14 +52,46 @@ def sets_of(model):
         yield from map(set, itertools.combinations(model.names, count))
 
 
-def reply_to(model, line):
-    """The reply to a line of a script, which is `void`, or `valid` with names."""
+def open_members(tree):
+    """Pairs of a feature and a member of a group of it that lets it leave one out, by the bounds of the group alone."""
+    for parent in features_of(tree):
+        for group in parent.groups:
+            if group.low < len(group.members):
+                yield from ((parent.name, member.name) for member in group.members)
+
+
+def found(model, command, products):
+    """The features that `dead`, `core` or `falseopt` asks for, in document order, by all products."""
+    dead = [name for name in model.names if not any(name in it for it in products)]
+    if command == "dead":
+        return dead
+    if command == "core":
+        return [name for name in model.names if all(name in it for it in products)]
+    kept = {name for parent, name in open_members(model.tree) if all(name in it for it in products if parent in it)}
+    return [name for name in model.names if name in kept and name not in dead]
+
+
+def written(name):
+    """A name as UVL writes it: in double quotes, unless it is an identifier and no word of UVL."""
+    return name if identifier_at(name, 0) == name and name not in RESERVED else f'"{name}"'
+
+
+def lines_to(model, line):
+    """The lines of the reply to a line of a script: a command without words, or `valid` with names."""
     command, *names = [quoted or plain for quoted, plain in WORD.findall(line)]
+    if command == "valid":
+        if not set(names) <= set(model.names):
+            return ["refused unknown-feature"]
+        return ["yes" if is_product(model, set(names)) else "no"]
+    products = [chosen for chosen in sets_of(model) if is_product(model, chosen)]
     if command == "void":
-        return "no" if any(is_product(model, chosen) for chosen in sets_of(model)) else "yes"
-    if not set(names) <= set(model.names):
-        return "refused unknown-feature"
-    return "yes" if is_product(model, set(names)) else "no"
+        return ["no" if products else "yes"]
+    return [written(name) for name in found(model, command, products)] if products else ["refused void"]
+
+
+def reply_to(model, line):
+    """The reply to such a line."""
+    return "".join(f"{it}\n" for it in [*lines_to(model, line), "."])
 
 
 def fault_line(fault):
@@ -72,4 +105,4 @@ def answer(contents, main, lines):
         model = model_of(contents, main)
     except FileFault as fault:
         return fault_line(fault), 3
-    return "".join(f"{reply_to(model, line)}\n.\n" for line in lines), 0
+    return "".join(reply_to(model, line) for line in lines), 0

@@ -18,16 +18,20 @@ def model():
     return f"features\n\t{ROOT}\n\t\tmandatory\n\t\t\t{MANDATORY}\n\t\toptional\n{members}"
 
 
+# each product has the root and the mandatory feature, and each other feature may be there or not
+WORDLESS = {"void": ["no"], "dead": [], "core": [ROOT, MANDATORY], "falseopt": []}
+
+
 def answer(words):
-    """The answer to a line's words, of which there is one at least."""
+    """The lines of the answer to a line's words, of which there is one at least."""
     command, names = words[0], words[1:]
-    if command not in ("valid", "void"):
-        return "refused unknown-command"
-    if command == "void":
-        return "refused wrong-arity" if names else "no"
+    if command in WORDLESS:
+        return ["refused wrong-arity"] if names else WORDLESS[command]
+    if command != "valid":
+        return ["refused unknown-command"]
     if not set(names) <= set(FEATURES):
-        return "refused unknown-feature"
-    return "yes" if {ROOT, MANDATORY} <= set(names) else "no"
+        return ["refused unknown-feature"]
+    return ["yes" if {ROOT, MANDATORY} <= set(names) else "no"]
 
 
 def reply(line):
@@ -42,7 +46,7 @@ def reply(line):
         return ""
     if not LINE.fullmatch(text):
         return "refused bad-name\n.\n"
-    return answer([quoted or plain for quoted, plain in WORD.findall(text)]) + "\n.\n"
+    return "".join(f"{it}\n" for it in [*answer([quoted or plain for quoted, plain in WORD.findall(text)]), "."])
 
 
 def replies(script):
@@ -56,14 +60,15 @@ def replies(script):
 # ---- scripts made at random
 
 WORDS = ['"Full Grain"', '"#"', "é中", '"é中"', "Wheel", '"valid"', '""', '"Car', 'Car"', '"Car"Body', "#", "Ca\rr", "\u00a0", "'"]
+COMMANDS = ["valid", "valid", "valid", *WORDLESS, '"valid"', '"void"', '"core"', "#", "vali", "VOID", "false"]
 SEPARATORS = [" ", " ", " ", "\t", "  \t", ""]
 BAD_BYTES = [b"\xff", b"\xc0\x80", b"\xed\xa0\x80", b"\xe4\xb8", b"\xf4\x90\x80\x80"]
 
 
 def random_line(random_):
     """A line without its line end: words of a command, some of them badly written."""
-    words = [random_.choice(["valid", "valid", "valid", "void", '"valid"', '"void"', "#", "vali", "VOID"])]
-    for _ in range(random_.randrange(6)):
+    words = [random_.choice(COMMANDS)]
+    for _ in range(random_.choice([0, random_.randrange(6)])):
         words.append(random_.choice([ROOT, MANDATORY, "Radio", ROOT, MANDATORY, "or", random_.choice(WORDS)]))
     separators = [random_.choice(["", "", "", " ", "\t"])] + [random_.choice(SEPARATORS) for _ in words]
     line = "".join(separator + word for separator, word in zip(separators, words)).encode("utf-8")

@@ -1,6 +1,6 @@
 -- Members of groups that seem optional and aren't. That these are the false-optional features is this project's own.
-use Rattle.std.specs.Prelude.{ℕ, Bool, not, ◌==◌, ◌&&◌, nat_lt, List, length, map, if◌then◌else◌}
-use Rattle.std.specs.List.{list_any, range_with_len}
+use Rattle.std.specs.Prelude.{ℕ, ◌<◌, Bool, not, ◌==◌, ◌&&◌, nat_lt, List, length, map, filter, if◌then◌else◌}
+use Rattle.std.specs.List.{All, list_any, range_with_len}
 use Rattle.uvl_model.specs.declared.rows.FeatureNo.{FeatureNo}
 use Rattle.uvl_model.specs.declared.rows.GroupRow.{GroupRow}
 use Rattle.uvl_model.specs.Names.{feature_names, name_of}
@@ -47,3 +47,11 @@ is_kept_in rows group feature =
 abbrev pub is_false_optional : Rows → FeatureNo → Bool
 is_false_optional rows feature =
     not (is_dead_in rows feature) && list_any (λ group. is_kept_in rows group feature) rows.groups
+
+-- the names of the false-optional features of a model, in document order
+abbrev pub false_optional_of : Rows → List (List ℕ)
+false_optional_of rows = map (name_in rows) (filter (is_false_optional rows) (all_features rows))
+
+-- each of the features is one of the model
+abbrev pub AreThere : Rows → List FeatureNo → Type 0
+AreThere rows features = All (λ feature. feature.0 < length rows.features) features

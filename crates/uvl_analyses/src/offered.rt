@@ -1,7 +1,8 @@
 //! Features that no product has, and features that every product has.
-ghost use Rattle.std.specs.Prelude.{◌≡◌, true, filter, IfOk, IfErr, IsErrAnd};
+ghost use Rattle.std.specs.Prelude.{◌≡◌, true, filter, map, IfOk, IfErr, IsErrAnd};
+ghost use Rattle.uvl_analyses.specs.Analyses.{core_of, dead_of};
 ghost use Rattle.uvl_analyses.specs.Compiled.{IsCompiled};
-ghost use Rattle.uvl_analyses.specs.Members.{all_features, is_core_in, is_dead_in, is_never};
+ghost use Rattle.uvl_analyses.specs.Members.{AreThere, all_features, is_core_in, is_dead_in, is_never, name_in};
 ghost use Rattle.uvl_model.specs.Products.{Products};
 ghost use Rattle.uvl_semantics.specs.Family.{is_void};
 
@@ -24,6 +25,8 @@ pub fn dead(
     requires { IsCompiled it.now.model kernel.now it.now.map it.now.products }
     ensures features { IfOk result (λ features.
         features.items ≡ filter (is_dead_in it.now.model) (all_features it.now.model)) }
+    ensures names { IfOk result (λ features. map (name_in it.now.model) features.items ≡ dead_of (Products it.now.model)) }
+    ensures there { IfOk result (λ features. AreThere it.now.model features.items) }
     ensures void { is_void (Products it.now.model) ≡ true → IsErrAnd result (λ refusal. refusal ≡ AnalysisRefusal.VoidModel) }
     ensures only_void { IfErr result (λ refusal. refusal ≡ AnalysisRefusal.VoidModel → is_void (Products it.now.model) ≡ true) }
 {
@@ -42,6 +45,8 @@ pub fn core(
     requires { IsCompiled it.now.model kernel.now it.now.map it.now.products }
     ensures features { IfOk result (λ features.
         features.items ≡ filter (is_core_in it.now.model) (all_features it.now.model)) }
+    ensures names { IfOk result (λ features. map (name_in it.now.model) features.items ≡ core_of (Products it.now.model)) }
+    ensures there { IfOk result (λ features. AreThere it.now.model features.items) }
     ensures void { is_void (Products it.now.model) ≡ true → IsErrAnd result (λ refusal. refusal ≡ AnalysisRefusal.VoidModel) }
     ensures only_void { IfErr result (λ refusal. refusal ≡ AnalysisRefusal.VoidModel → is_void (Products it.now.model) ≡ true) }
 {

@@ -1,11 +1,11 @@
 //! Members of groups that seem optional and come with their parent in every product.
-ghost use Rattle.std.specs.Prelude.{◌≡◌, ◌<◌, ◌||◌, ◌&&◌, [], not, ℕ, true, false, filter, length, get_or, IfOk, OnOk, IfErr, IsErrAnd};
+ghost use Rattle.std.specs.Prelude.{◌≡◌, ◌<◌, ◌||◌, ◌&&◌, [], not, ℕ, true, false, filter, length, map, get_or, IfOk, OnOk, IfErr, IsErrAnd};
 ghost use Rattle.std.specs.List.{All, Contains};
 ghost use Rattle.dd_quant.specs.Offers.{AreOffers};
 ghost use Rattle.dd_store.specs.Exhausted.{value_at};
 ghost use Rattle.uvl_analyses.specs.Compiled.{IsCompiled};
 ghost use Rattle.uvl_analyses.specs.Listed.{is_named, stays};
-ghost use Rattle.uvl_analyses.specs.Members.{all_features, is_dead_in, is_false_optional, is_kept_in};
+ghost use Rattle.uvl_analyses.specs.Members.{AreThere, all_features, false_optional_of, is_dead_in, is_false_optional, is_kept_in, name_in};
 ghost use Rattle.uvl_model.specs.Products.{Products};
 ghost use Rattle.uvl_model.specs.Spelling.{numbered};
 ghost use Rattle.uvl_semantics.specs.Family.{is_void};
@@ -30,6 +30,8 @@ pub fn false_optional(
     requires { IsCompiled it.now.model kernel.now it.now.map it.now.products }
     ensures features { IfOk result (λ features.
         features.items ≡ filter (is_false_optional it.now.model) (all_features it.now.model)) }
+    ensures names { IfOk result (λ features. map (name_in it.now.model) features.items ≡ false_optional_of it.now.model) }
+    ensures there { IfOk result (λ features. AreThere it.now.model features.items) }
     ensures void { is_void (Products it.now.model) ≡ true → IsErrAnd result (λ refusal. refusal ≡ AnalysisRefusal.VoidModel) }
     ensures only_void { IfErr result (λ refusal. refusal ≡ AnalysisRefusal.VoidModel → is_void (Products it.now.model) ≡ true) }
 {

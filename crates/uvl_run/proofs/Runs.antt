@@ -240,4 +240,5 @@ products_are keeps files rows flat =
 -- and the state of such rows is one in front of the first line
 pub starts_with : FlatKeepsProducts → (files : List Loaded) (rows : Rows) (budget : ℕ) (state : State) → Flat files rows → state ≡ start_of rows budget → IsStart files budget state
 starts_with keeps files rows budget state flat is =
-    record { products = products_are keeps files rows flat ∙ ap (λ (s : State). Some (Products s.main)) (sym is); table = ap (λ (s : State). s.budget) is }
+    let P : State → Type 0 = λ s. Flat files s.main in
+    record { flat = subst P (sym is) flat; products = products_are keeps files rows flat ∙ ap (λ (s : State). Some (Products s.main)) (sym is); table = ap (λ (s : State). s.budget) is }

@@ -5,6 +5,7 @@ pub mod InMemory
 pub mod Laws
 pub mod Loading
 pub mod Models
+pub mod NameList
 pub mod Outside
 pub mod Products
 pub mod Replies

@@ -4,6 +4,8 @@ ghost use Rattle.std.specs.List.{All, list_all};
 ghost use Rattle.dd_store.specs.Follow.{assignment_of};
 ghost use Rattle.dd_store.specs.Order.{IsDistinct};
 ghost use Rattle.dd_store.specs.Table.{handles_on};
+ghost use Rattle.uvl_analyses.specs.Analyses.{dead_of, core_of};
+ghost use Rattle.uvl_analyses.specs.Members.{false_optional_of};
 ghost use Rattle.uvl_functions.specs.Variables.{marks_under};
 ghost use Rattle.uvl_model.specs.Comparisons.{HaveNoComparison};
 ghost use Rattle.uvl_model.specs.Marks.{StandFor};
@@ -16,18 +18,19 @@ ghost use Rattle.uvl_run.specs.Products.{product_answer};
 ghost use Rattle.uvl_run.specs.Replies.{Reply, Fetches};
 ghost use Rattle.uvl_run.specs.State.{start_of};
 ghost use Rattle.uvl_run.specs.steps.Compiled.{IsCompiled, IsCauseFor};
+ghost use Rattle.uvl_run.specs.steps.Found.{Finds};
 
-use crate::products::{answer_valid, answer_void};
+use crate::products::{answer_core, answer_dead, answer_false_optional, answer_valid, answer_void};
 use dd_apply::Kernel;
 use dd_store::{Refusal, Var};
 use std::alloc::Global;
+use uvl_analyses::{AnalysisRefusal, core, dead, false_optional, void};
 use uvl_base::Name;
 use uvl_compile::{Compiled, Names, PlaceRefusal, compile, enough_is_enough};
 use uvl_lines::{AnswerFault, Answerer};
-use uvl_model::{FeatureNo, Model, marks_give_products, products_are_sets, rows_give_names};
+use uvl_model::{FeatureNo, FeatureRow, Model, marks_give_products, rows_give_names};
 use uvl_outside::Files;
 use uvl_script::Command;
-use uvl_semantics::void_families_have_no_set;
 
 /// The one table of diagrams, and the main model with its diagram in it. Contracts see the main
 /// model and the budget of the table.
@@ -96,13 +99,35 @@ impl State {
     pub(crate) fn is_void(&self) -> bool
         ensures { result ≡ is_void (Products self.now.main) }
     {
-        // Laws, which are facts for the proof.
-        products_are_sets();
-        void_families_have_no_set();
-        match self.kernel.constant_of(&self.main.products) {
-            Some(value) => !value,
-            None => false,
-        }
+        void(&self.kernel, &self.main)
+    }
+
+    /// The rows of the features of the main model.
+    pub(crate) fn features(&self) -> &[FeatureRow]
+        ensures { result.now ≡ self.now.main.features }
+    {
+        self.main.model.features()
+    }
+
+    /// The features that no product has.
+    pub(crate) fn dead(&self, alloc: Global) -> Result<Vec<FeatureNo>, AnalysisRefusal>
+        ensures { Finds self.now.main (dead_of (Products self.now.main)) result }
+    {
+        dead(&self.kernel, alloc, &self.main)
+    }
+
+    /// The features that every product has.
+    pub(crate) fn core(&self, alloc: Global) -> Result<Vec<FeatureNo>, AnalysisRefusal>
+        ensures { Finds self.now.main (core_of (Products self.now.main)) result }
+    {
+        core(&self.kernel, alloc, &self.main)
+    }
+
+    /// The features that seem optional, and come with their parent in every product.
+    pub(crate) fn false_optional(&self, alloc: Global) -> Result<Vec<FeatureNo>, AnalysisRefusal>
+        ensures { Finds self.now.main (false_optional_of self.now.main) result }
+    {
+        false_optional(&self.kernel, alloc, &self.main)
     }
 }
 
@@ -172,7 +197,7 @@ impl Answerer for State {
 
     fn answer<F: Files>(
         &mut self,
-        _alloc: Global,
+        alloc: Global,
         _files: &mut F,
         command: &Command,
         into: &mut Vec<u8>,
@@ -180,6 +205,9 @@ impl Answerer for State {
         match command {
             Command::Valid(names) => answer_valid(self, names.as_slice(), into)?,
             Command::Void => answer_void(self, into)?,
+            Command::Dead => answer_dead(self, alloc, into)?,
+            Command::Core => answer_core(self, alloc, into)?,
+            Command::FalseOpt => answer_false_optional(self, alloc, into)?,
         }
         Ok(())
     }

@@ -4,7 +4,7 @@ use Rattle.std.specs.List.{find}
 use Rattle.std.specs.Option.{option_map}
 use Rattle.std.specs.Str.{bytes_eq}
 use Rattle.uvl_script.specs.declared.command.Command.{Command}
-use Rattle.uvl_script.specs.declared.command.Command.TheVariants.{Valid, Void}
+use Rattle.uvl_script.specs.declared.command.Command.TheVariants.{Valid, Void, Dead, Core, FalseOpt}
 use Rattle.uvl_script.specs.declared.command.CommandName.{CommandName}
 use Rattle.uvl_script.specs.declared.command.CommandName.TheVariants as called
 use Rattle.uvl_script.specs.declared.fault.LineFault.{LineFault}
@@ -15,6 +15,9 @@ abbrev pub commands : List (List ℕ × CommandName)
 commands =
     (codes "valid", called.Valid)
     ∷ (codes "void", called.Void)
+    ∷ (codes "dead", called.Dead)
+    ∷ (codes "core", called.Core)
+    ∷ (codes "falseopt", called.FalseOpt)
     ∷ []
 
 -- the command that some bytes name, if there is one
@@ -30,6 +33,9 @@ without_words command (word ∷ words) = Err WrongArity
 abbrev pub command_with : CommandName → List (List ℕ) → Result Command LineFault
 command_with called.Valid words = Ok (Valid words)
 command_with called.Void words = without_words Void words
+command_with called.Dead words = without_words Dead words
+command_with called.Core words = without_words Core words
+command_with called.FalseOpt words = without_words FalseOpt words
 
 -- where there is such a command it is told by its words
 abbrev pub command_or_fault : Option CommandName → List (List ℕ) → Result Command LineFault

@@ -20,6 +20,12 @@ pub enum Command {
     Valid(Names),
     /// `void`: is there no product?
     Void,
+    /// `dead`: which features are in no product?
+    Dead,
+    /// `core`: which features are in every product?
+    Core,
+    /// `falseopt`: which features seem optional, and are in every product that has their parent?
+    FalseOpt,
 }
 
 /// What a command is called. Its words behind the name are another matter.
@@ -27,6 +33,9 @@ pub enum Command {
 pub(crate) enum CommandName {
     Valid,
     Void,
+    Dead,
+    Core,
+    FalseOpt,
 }
 
 /// The command of this name with the words of `text` behind it.
@@ -47,6 +56,9 @@ fn command_named(name: &str) -> Option<CommandName>
     match name {
         "valid" => Some(CommandName::Valid),
         "void" => Some(CommandName::Void),
+        "dead" => Some(CommandName::Dead),
+        "core" => Some(CommandName::Core),
+        "falseopt" => Some(CommandName::FalseOpt),
         _ => None,
     }
 }
@@ -59,6 +71,9 @@ fn command_with(alloc: Global, name: CommandName, text: &str) -> Result<Command,
     match name {
         CommandName::Valid => Ok(Command::Valid(any_names(alloc, text)?)),
         CommandName::Void => without_words(Command::Void, text),
+        CommandName::Dead => without_words(Command::Dead, text),
+        CommandName::Core => without_words(Command::Core, text),
+        CommandName::FalseOpt => without_words(Command::FalseOpt, text),
     }
 }
 

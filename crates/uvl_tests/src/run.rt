@@ -173,7 +173,7 @@ fn a_script_has_64_mebibytes_at_most(rt: HostRuntime) -> Result<(), Fail> {
 }
 
 /// Lines and their replies.
-const LINES: [(&[u8], &str); 18] = [
+const LINES: [(&[u8], &str); 19] = [
     (b"valid Car Body", "yes"),
     (b"valid Car Radio\r", "no"),
     (b"valid", "no"),
@@ -182,6 +182,7 @@ const LINES: [(&[u8], &str); 18] = [
     (b"valid Car Wheel", "refused unknown-feature"),
     (b"valid Wheel Car Body", "refused unknown-feature"),
     (b"void", "no"),
+    (b"core", "Car\nBody"),
     (b"valid \"Car\"\tBody", "yes"),
     (b"frobnicate", "refused unknown-command"),
     (b"valid \"A", "refused bad-name"),

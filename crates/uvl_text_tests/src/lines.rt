@@ -9,8 +9,8 @@ use uvl_lines::{AnswerFault, Answerer, Ending, answer_lines, push_refusal};
 use uvl_outside::{FetchFault, Files, MemFiles, MemSink, MemSource};
 use uvl_script::Command;
 
-/// Answers `valid` alone with how many commands it has answered, `valid` with names with a refusal, and
-/// `void` with the file `m`.
+/// Answers `valid` with names with a refusal, `void` with the file `m`, and else with how many commands it
+/// has answered.
 #[derive(Drop)]
 struct Counter {
     count: u8,
@@ -37,7 +37,7 @@ impl Answerer for Counter {
                 Err(FetchFault::OutOfMemory) => Err(AnswerFault::OutOfMemory),
             },
             Command::Valid(names) if !names.is_empty() => Ok(push_refusal("names", into)?),
-            Command::Valid(_) => {
+            _ => {
                 into.extend_from_slice(&[b'0' + self.count % 10, b'\n', b'.', b'\n'])?;
                 Ok(())
             }

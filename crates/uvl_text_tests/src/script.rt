@@ -7,7 +7,7 @@ use uvl_base::{MOST_LINE_BYTES, Name};
 use uvl_script::{Command, LineFault, read_line, split_words};
 
 /// Lines, and what they are read as.
-const LINES: [(&[u8], &str); 35] = [
+const LINES: [(&[u8], &str); 41] = [
     (b"valid Car Body", "valid [Car] [Body]"),
     (b"valid", "valid"),
     (b"\t valid\tCar  Car \t", "valid [Car] [Car]"),
@@ -22,6 +22,9 @@ const LINES: [(&[u8], &str); 35] = [
     (b"valid gr\xC3\xB6\xC3\x9Fe\r", "valid [gr\u{f6}\u{df}e]"),
     (b"void", "void"),
     (b" void \r", "void"),
+    (b"dead", "dead"),
+    (b"\"core\" ", "core"),
+    (b"falseopt\r", "falseopt"),
     (b"", "silent"),
     (b"\r", "silent"),
     (b" \t ", "silent"),
@@ -43,6 +46,9 @@ const LINES: [(&[u8], &str); 35] = [
     (b"\"valid Car\"", "unknown-command"),
     (b"void x", "wrong-arity"),
     (b"void \"x y\"", "wrong-arity"),
+    (b"dead x", "wrong-arity"),
+    (b"core Car Body", "wrong-arity"),
+    (b"falseopt #", "wrong-arity"),
     (b"\xFF", "bad-utf8"),
     (b"# \xFF", "bad-utf8"),
     (b"valid \" \xC3", "bad-utf8"),
@@ -53,6 +59,9 @@ fn told(alloc: Global, line: &[u8]) -> Result<String, Fail> {
     match read_line(alloc, line) {
         Ok(None) => Ok(String::from_str(alloc, "silent")?),
         Ok(Some(Command::Void)) => Ok(String::from_str(alloc, "void")?),
+        Ok(Some(Command::Dead)) => Ok(String::from_str(alloc, "dead")?),
+        Ok(Some(Command::Core)) => Ok(String::from_str(alloc, "core")?),
+        Ok(Some(Command::FalseOpt)) => Ok(String::from_str(alloc, "falseopt")?),
         Ok(Some(Command::Valid(names))) => listed(alloc, "valid", names.as_slice()),
         Err(fault) => Ok(String::from_str(alloc, fault.word().unwrap_or("out of memory"))?),
     }

@@ -1,21 +1,10 @@
--- A model with the diagram of its products.
-use Rattle.std.specs.Prelude.{◌≡◌, ℕ, Bool, List}
+-- Compiling a model in a table of its own.
+use Rattle.std.specs.Prelude.{ℕ}
 use Rattle.dd_store.specs.declared.refusal.Refusal.{Refusal}
 use Rattle.dd_store.specs.declared.refusal.Refusal.TheVariants.{OverBudget, OutOfMemory}
-use Rattle.dd_store.specs.declared.row.Var.{Var}
-use Rattle.dd_store.specs.Table.{Table, IsLive, IsSound, value_of}
-use Rattle.uvl_functions.specs.Functions.{products_of}
-use Rattle.uvl_functions.specs.Variables.{HasVariables}
+pub use Rattle.uvl_analyses.specs.Compiled.{IsCompiled}
 use Rattle.uvl_model.specs.Rows.{Rows}
 use Rattle.uvl_run.specs.Budget.{IsShortForRows}
-
--- The features have their variables in the table, and the value of the live handle is whether the features with a true
--- variable are a product.
-pub record IsCompiled (rows : Rows) (t : Table) (vars : List Var) (products : ℕ) : Type 0 where
-  pub sound : IsSound t
-  pub variables : HasVariables t rows vars
-  pub live : IsLive t products
-  pub value : (a : ℕ → Bool) → value_of t products a ≡ products_of vars rows a
 
 -- why a model isn't compiled in a table of its own; want of memory has no cause
 abbrev pub IsCauseFor : Rows → ℕ → Refusal → Type 0

@@ -9,3 +9,12 @@ returns-in_err-any_names-in-Valid c =
 
 pub returns-in-Void : goal.returns-in-Void
 returns-in-Void c = of_called _ _ _ _ c.in-Void.is c.without_words.ensures
+
+pub returns-in-Dead : goal.returns-in-Dead
+returns-in-Dead c = of_called _ _ _ _ c.in-Dead.is c.without_words-in-Dead.ensures
+
+pub returns-in-Core : goal.returns-in-Core
+returns-in-Core c = of_called _ _ _ _ c.in-Core.is c.without_words-in-Core.ensures
+
+pub returns-in-FalseOpt : goal.returns-in-FalseOpt
+returns-in-FalseOpt c = of_called _ _ _ _ c.in-FalseOpt.is c.without_words-in-FalseOpt.ensures
