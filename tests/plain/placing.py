@@ -1,13 +1,15 @@
 """Resolving a set of files: the placed tree of each file and its rules, or the first fault of one of them.
 
 Numbers in rules aren't counted yet: where there is no fault, and a rule of some file has a literal, a sum, arithmetic or a
-comparison, the set is NotBuilt; and a reference in a number position isn't looked up.
+comparison, the set is NotBuilt.
 """
 from collections import namedtuple
 
 from .files import FRONT, FileFault, load
 from .syntax import BOOLEAN, all_rules, dotted, features_of, nodes_of
 
+NUMERIC = frozenset(["number", "sum", "+", "-", "*"])  # what makes a number
+FACTOR_LIMIT = 1000000
 MOST_FEATURES, MOST_DEPTH, MOST_RULES, MOST_NODES = 2048, 64, 65536, 4194304
 
 Tree = namedtuple("Tree", "name groups")  # a feature with what is below it
@@ -50,6 +52,7 @@ class Placed:
     def __init__(self, loaded):
         self.path, self.file, self.tree = loaded.path, loaded.file, None
         self.names, self.own_rules, self.placings = [], [], []
+        self.keys = {}  # for each name the keys of its attributes, and whether each is a number
         self.rule_count = self.node_count = 0
 
     def rules(self):
@@ -116,6 +119,7 @@ class Resolving(Placed):
             raise FileFault(self.path, 31, feature.place)
         self.count(placed.rule_count, placed.node_count)
         self.names += names
+        self.keys.update((f"{qualifier}.{name}", keys) for name, keys in placed.keys.items())
         self.placings.append((qualifier, placed))
         return tree
 
@@ -124,6 +128,7 @@ class Resolving(Placed):
         (name,) = feature.parts
         self.raise_first(self.faults_of_names(feature, [name]))
         self.names.append(name)
+        self.keys[name] = {it.key: it.is_number for it in feature.attributes}
         tree = Tree(name, [])
         for group in feature.groups:
             self.raise_first(self.faults_of_group(group))
@@ -137,11 +142,30 @@ class Resolving(Placed):
     def faults_of_rule(self, rule, nodes):
         if self.is_too_much(1, len(nodes)):
             yield 31, rule.place
-        names = set(self.names)
-        unknown = [node.place for node, is_number in nodes
-                   if node.kind == "reference" and not is_number and dotted(node.parts) not in names]
-        if unknown:
-            yield 15, min(unknown)
+        found = [(node.place, number) for node, is_number in nodes for number in self.faults_of_node(node, is_number)]
+        if found:
+            place, number = min(found)
+            yield number, place
+
+    def faults_of_node(self, node, is_number):
+        """The faults of a node alone, which stands in a number position or else in a Boolean one."""
+        if node.kind == "reference":
+            yield from self.faults_of_reference(node.parts, is_number)
+        elif is_number != (node.kind in NUMERIC):
+            yield 18
+        if node.kind == "*":
+            yield from faults_of_product(*node.parts)
+
+    def faults_of_reference(self, parts, is_number):
+        feature = dotted(parts[:-1] if is_number and len(parts) > 1 else parts)
+        if feature not in self.keys:
+            yield 15
+        elif is_number and len(parts) == 1:
+            yield 18
+        elif is_number and parts[-1] not in self.keys[feature]:
+            yield 16
+        elif is_number and not self.keys[feature][parts[-1]]:
+            yield 18
 
     def add_rule(self, rule):
         nodes = list(nodes_of(rule))
@@ -155,6 +179,14 @@ class Resolving(Placed):
         self.tree = self.read(self.file.root, 1)
         for rule in all_rules(self.file):
             self.add_rule(rule)
+
+
+def faults_of_product(*sides):
+    literals = [side.parts[0] for side in sides if side.kind == "number"]
+    if not literals or any(node.kind == "*" for side in sides for node, _ in nodes_of(side)):
+        yield 25
+    elif all(literal >= FACTOR_LIMIT for literal in literals):
+        yield 27
 
 
 def has_number(rule):

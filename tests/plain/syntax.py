@@ -1,6 +1,7 @@
 """What the tokens of a file say: its imports, its tree and its rules. The tokens have to be a file of the grammar."""
 import sys
 from collections import namedtuple
+from decimal import Decimal
 
 from .grammar import RULES
 
@@ -8,9 +9,10 @@ File = namedtuple("File", "imports root rules end")  # `root` is None where ther
 Import = namedtuple("Import", "place path qualifier")
 Feature = namedtuple("Feature", "place parts attributes rules groups")
 Group = namedtuple("Group", "place kind members")  # `kind` is a word, or a pair of bounds of which the upper may be None
-Attribute = namedtuple("Attribute", "place key lists")  # with the lists of attributes inside its value
-Expression = namedtuple("Expression", "kind place parts")  # the parts are names or operands
+Attribute = namedtuple("Attribute", "place key is_number lists")  # with the lists of attributes inside its value
+Expression = namedtuple("Expression", "kind place parts")  # the parts are names, the size of a literal, or operands
 
+LEAVES = frozenset(["reference", "number", "sum"])  # expressions without operands
 BOOLEAN = frozenset(["!", "&", "|", "=>", "<=>"])  # the operators whose operands are truths
 MOST_CALLS = 20000  # a rule nests as deep as the program takes it, and each bracket is some thirty calls here
 sys.setrecursionlimit(max(MOST_CALLS, sys.getrecursionlimit()))
@@ -106,7 +108,9 @@ def operand_of(node):
         return expression_of(node.parts[1])
     if first.kind == "reference":
         return Expression("reference", place_of(first), names_of(first))
-    return Expression("sum" if first.kind == "sum" else "number", first.place, ())
+    if first.kind == "sum":
+        return Expression("sum", first.place, ())
+    return Expression("number", first.place, (Decimal(node.parts[-1].spelling),))
 
 
 # ---- the tree
@@ -123,7 +127,8 @@ def attributes_of(plains):
     made = []
     for plain in plains:
         key, value = plain.first("name"), plain.first("value")
-        made.append(Attribute(key.place, name_of(key), lists_in(value) if value else []))
+        is_number = bool(value) and value.parts[-1].kind == "number"
+        made.append(Attribute(key.place, name_of(key), is_number, lists_in(value) if value else []))
     return made
 
 
@@ -190,5 +195,5 @@ def nodes_of(rule):
     while left:
         node, is_number = left.pop()
         yield node, is_number
-        if node.kind != "reference":
+        if node.kind not in LEAVES:
             left += [(part, node.kind not in BOOLEAN) for part in node.parts]

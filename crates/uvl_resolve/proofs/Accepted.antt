@@ -39,8 +39,9 @@ use Rattle.uvl_scope.specs.Firsts.{first_along, when}
 use Rattle.uvl_scope.specs.Keys.{repeated_key}
 use Rattle.uvl_scope.specs.LineFaults.{fault_of_line, finding, has_body, has_known_name, has_too_many_rules, is_placed_again, is_too_deep, is_too_large, places_nothing}
 use Rattle.uvl_scope.specs.Lines.{Line, of_feature, of_group, lines_of}
-use Rattle.uvl_scope.specs.RuleFaults.{fault_of_rule, unknown_place}
-use Rattle.uvl_scope.specs.Rules.{has_numbers, references_of}
+use Rattle.uvl_scope.specs.NumberFaults.{fault_inside}
+use Rattle.uvl_scope.specs.RuleFaults.{fault_of_rule}
+use Rattle.uvl_scope.specs.Rules.{has_numbers}
 use Rattle.uvl_scope.specs.Trees.{AreScopesOf}
 use Rattle.uvl_semantics.specs.Tree.{Tree}
 
@@ -202,20 +203,21 @@ module _ (files : List Loaded) (whole : IsWhole files) (accepted : IsAccepted fi
         let brought = brought_in (scopes_of (take k files)) loaded in
         let rules = rules_of loaded.file in
         let third = (neither_there _ _ (neither_there _ _ (neither_there _ _ none_found).1).1).0 in
-        let known = each_of (λ (rule : Expr). (f : List Expr) × (fault_of_rule brought f rule ≡ None)) (λ (rule : Expr). unknown_place names (references_of rule) ≡ None)
-        (λ rule h. none_mapped _ _ (neither_there _ _ (neither_there _ _ h.1).1).0) rules (each_along (fault_of_rule brought) [] rules third) in
+        let known = each_of (λ (rule : Expr). (f : List Expr) × (fault_of_rule brought f rule ≡ None)) (λ (rule : Expr). fault_inside names brought.attributes rule ≡ None)
+        (λ rule h. (neither_there _ _ (neither_there _ _ h.1).1).0) rules (each_along (fault_of_rule brought) [] rules third) in
         let numbers = any_none has_numbers rules (any_at (λ (l : Loaded). list_any has_numbers (rules_of l.file)) files k loaded accepted.no_numbers there) in
         let written = (whole.each k loaded there).written in
         let few = recursion_from_All _ rules (file_few written.tokens loaded.file written.parsed.spelled written.parsed.unnamed) in
         let shallow = recursion_from_All _ rules (file_grouped written.tokens loaded.file written.parsed.spelled written.parsed.unnamed) in
-        All-from_recursion (IsPlain names) rules (plain names rules known numbers few shallow)
+        All-from_recursion (IsPlain names) rules (plain names brought.attributes rules known numbers few shallow)
       where
-        plain : (names : List (List ℕ)) (rules : List Expr) → AllByRecursion (λ rule. unknown_place names (references_of rule) ≡ None) rules
+        plain : (names : List (List ℕ)) (attributes : List (List Attribute)) (rules : List Expr)
+            → AllByRecursion (λ rule. fault_inside names attributes rule ≡ None) rules
             → AllByRecursion (λ rule. has_numbers rule ≡ false) rules → AllByRecursion (λ rule. nodes_of rule ≤ most_rule_nodes) rules
             → AllByRecursion (λ rule. right_operands rule ≤ most_right_operands) rules → AllByRecursion (IsPlain names) rules
-        plain names [] k n f s = tt
-        plain names (rule ∷ rules) k n f s =
-            (record { made = λ offset. readable names offset rule n.0 k.0; few = f.0; shallow = s.0 }, plain names rules k.1 n.1 f.1 s.1)
+        plain names attributes [] k n f s = tt
+        plain names attributes (rule ∷ rules) k n f s =
+            (record { made = λ offset. readable names attributes offset rule n.0 k.0; few = f.0; shallow = s.0 }, plain names attributes rules k.1 n.1 f.1 s.1)
 
   -- the files with their scopes
   pub are_ready : (scopes : List Scope) → scopes ≡ scopes_of files → AreScopesOf files scopes → AreReady files scopes

@@ -22,4 +22,3 @@ mod Steps
 mod Targets
 mod Texts
 mod UnderTexts
-mod Unknown

@@ -17,14 +17,17 @@ use Rattle.uvl_model.specs.Spelling.{numbered}
 use Rattle.uvl_placing.specs.Names.{dotted}
 use Rattle.uvl_resolve.specs.steps.Rules.{joined, joined_by, made_of, made_with, IsMade}
 use Rattle.uvl_resolve.proofs.Targets.{position_next}
-use Rattle.uvl_scope.specs.RuleFaults.{unknown_place}
-use Rattle.uvl_scope.specs.Rules.{has_numbers, joins_truths, references_at, references_in, speaks_of_numbers}
-use Rattle.uvl_resolve.proofs.Unknown.{unknown_append}
+use Rattle.uvl_base.specs.declared.fault.FaultKind.TheVariants.{UnknownFeature}
+use Rattle.uvl_ast.specs.declared.feature.Attribute.{Attribute}
+use Rattle.uvl_scope.specs.Firsts.{when}
+use Rattle.uvl_scope.specs.LineFaults.{finding}
+use Rattle.uvl_scope.specs.NumberFaults.{Part, fault_at, fault_of_truth, fault_within, part_at, part_of}
+use Rattle.uvl_scope.specs.Rules.{has_numbers, joins_truths, speaks_of_numbers}
 use Rattle.uvl_semantics.specs.Product.{has}
 
-module _ (names : List (List ℕ)) (offset : ℕ) where
+module _ (names : List (List ℕ)) (attributes : List (List Attribute)) (offset : ℕ) where
   abbrev IsReadable : Expr → Type 0
-  IsReadable e = has_numbers e ≡ false → unknown_place names (references_in e true) ≡ None → IsMade (made_of names offset e)
+  IsReadable e = has_numbers e ≡ false → fault_within names attributes e true ≡ None → IsMade (made_of names offset e)
 
   abbrev ReadableExpr : Type 0
   ReadableExpr = (e : Expr) × IsReadable e
@@ -35,9 +38,10 @@ module _ (names : List (List ℕ)) (offset : ℕ) where
   numbers_at : (x : Expr-F Expr) → has_numbers (roll-Expr x) ≡ speaks_of_numbers (map-Expr Expr Bool has_numbers x)
   numbers_at = fold-roll-Expr Bool speaks_of_numbers
 
-  references_here : (x : Expr-F Expr) (boolean : Bool)
-      → references_in (roll-Expr x) boolean ≡ references_at (map-Expr Expr (Bool → List Ref) references_in x) boolean
-  references_here x boolean = ap (λ (f : Bool → List Ref). f boolean) (fold-roll-Expr (Bool → List Ref) references_at x)
+  fault_here : (x : Expr-F Expr) (boolean : Bool)
+      → fault_within names attributes (roll-Expr x) boolean
+      ≡ fault_at names attributes (map-Expr Expr Part (part_of names attributes) x) boolean
+  fault_here x boolean = ap (λ (p : Part). p.fault boolean) (fold-roll-Expr Part (part_at names attributes) x)
 
   -- something is made of what is made
   made_from : {A : Type 0} (make : A → Rule) (found : Option A) → ((x : A) × (found ≡ Some x)) → IsMade (option_map make found)
@@ -62,23 +66,20 @@ module _ (names : List (List ℕ)) (offset : ℕ) where
           )
 
   -- a reference that isn't unknown is known
-  known_one : (reference : Ref) → unknown_place names (reference ∷ []) ≡ None → has names (dotted reference.parts) ≡ true
+  known_one : (reference : Ref) → fault_of_truth names (dotted reference.parts) reference.place ≡ None → has names (dotted reference.parts) ≡ true
   known_one reference none = by (has names (dotted reference.parts)) refl
     where
       by : (b : Bool) → has names (dotted reference.parts) ≡ b → has names (dotted reference.parts) ≡ true
       by true e = e
       by false e =
-          let found : unknown_place names (reference ∷ []) ≡ Some reference.place =
-          ap (λ (t : Bool). option_map (λ (r : Ref). r.place) (cond (not t) (Some reference) None)) e in
-          let both : None ≡ Some reference.place = sym none ∙ found in
+          let found : fault_of_truth names (dotted reference.parts) reference.place ≡ Some (finding UnknownFeature reference.place) =
+          ap (λ (t : Bool). when (not t) (finding UnknownFeature reference.place)) e in
+          let both : None ≡ Some (finding UnknownFeature reference.place) = sym none ∙ found in
           absurd cc
 
-  none_both : (front rest : List Ref) → unknown_place names (front ++ rest) ≡ None → (unknown_place names front ≡ None) × (unknown_place names rest ≡ None)
-  none_both front rest none = parts (unknown_place names front) (unknown_place names rest) (sym (unknown_append names front rest) ∙ none)
-    where
-      parts : (a b : Option Place) → option_or a b ≡ None → (a ≡ None) × (b ≡ None)
-      parts None b h = (refl, h)
-      parts (Some a) b h = absurd cc
+  neither : {A : Type 0} (a b : Option A) → option_or a b ≡ None → (a ≡ None) × (b ≡ None)
+  neither None b h = (refl, h)
+  neither (Some a) b h = absurd cc
 
   joins_made : (o : BinOp) (l r : Rule) → joins_truths o ≡ true → IsMade (joined_by o l r)
   joins_made op.And l r h = (_, refl)
@@ -101,12 +102,10 @@ module _ (names : List (List ℕ)) (offset : ℕ) where
       let parts = or_parts (not (joins_truths o) || has_numbers left.0) (has_numbers right.0) (sym (numbers_at x) ∙ no_numbers) in
       let front = or_parts (not (joins_truths o)) (has_numbers left.0) parts.0 in
       let joins : joins_truths o ≡ true = not-false (joins_truths o) front.0 in
-      let all : unknown_place names (references_in left.0 true ++ references_in right.0 true) ≡ None =
-      ap (λ (b : Bool). unknown_place names (references_in left.0 b ++ references_in right.0 b)) (sym joins)
-      ∙ sym (ap (unknown_place names) (references_here x true)) ∙ known in
-      let both = none_both (references_in left.0 true) (references_in right.0 true) all in
-      let l = left.1 front.1 both.0 in
-      let r = right.1 parts.1 both.1 in
+      let here = neither _ _ (sym (fault_here x true) ∙ known) in
+      let behind = neither _ _ here.1 in
+      let l = left.1 front.1 (ap (fault_within names attributes left.0) (sym joins) ∙ here.0) in
+      let r = right.1 parts.1 (ap (fault_within names attributes right.0) (sym joins) ∙ behind.1) in
       let made = joins_made o l.0 r.0 joins in
       (made.0, made_at x ∙ ap (λ (a : Option Rule). joined o a (made_of names offset right.0)) l.1 ∙ ap (joined o (Some l.0)) r.1 ∙ made.1)
 
@@ -114,13 +113,13 @@ module _ (names : List (List ℕ)) (offset : ℕ) where
   node (Expr-F.Number value place) no_numbers known = absurd (false≢true (sym no_numbers ∙ numbers_at (Expr-F.Number value place)))
   node (Expr-F.Name reference) no_numbers known =
       let x : Expr-F Expr = Expr-F.Name reference in
-      let there = place_there names (dotted reference.parts) (known_one reference (sym (ap (unknown_place names) (references_here x true)) ∙ known)) in
+      let there = place_there names (dotted reference.parts) (known_one reference (sym (fault_here x true) ∙ known)) in
       let made = made_from (λ (k : ℕ). rule.Feature (numbered (offset + k))) (position (bytes_eq (dotted reference.parts)) names) there in
       is_made (made_of names offset (roll-Expr x)) _ (made_at x) made
   node (Expr-F.Sum key place) no_numbers known = absurd (false≢true (sym no_numbers ∙ numbers_at (Expr-F.Sum key place)))
   node (Expr-F.Not operand place) no_numbers known =
       let x : Expr-F Expr = Expr-F.Not operand.0 place in
-      let below = operand.1 (sym (numbers_at x) ∙ no_numbers) (sym (ap (unknown_place names) (references_here x true)) ∙ known) in
+      let below = operand.1 (sym (numbers_at x) ∙ no_numbers) (sym (fault_here x true) ∙ known) in
       is_made (made_of names offset (roll-Expr x)) _ (made_at x) (made_from (λ (r : Rule). rule.Not r) (made_of names offset operand.0) below)
   node (Expr-F.Binary operator left right place) no_numbers known = binary_made operator left right place no_numbers known
 

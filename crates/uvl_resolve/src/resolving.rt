@@ -34,7 +34,7 @@ pub fn resolve(alloc: Global, files: &FileSet) -> Result<Model, ResolveFault>
 }
 
 /// The model of files that are accepted, whose scopes these are.
-fn model_of(alloc: Global, files: &[Loaded], scopes: &[Scope]) -> Result<Model, OutOfMemory>
+fn model_of(alloc: Global, files: &[Loaded], scopes: &[Scope<'_>]) -> Result<Model, OutOfMemory>
     requires whole { IsWhole files.now }
     requires accepted { IsAccepted files.now }
     requires scopes { scopes.now ≡ scopes_of files.now }

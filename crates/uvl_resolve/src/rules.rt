@@ -46,7 +46,7 @@ impl RuleBuilder {
     pub(crate) fn add_file(
         &mut self,
         files: &[Loaded],
-        scopes: &[Scope],
+        scopes: &[Scope<'_>],
         qualifiers: &[NameIndex],
         at: usize,
         offset: usize,

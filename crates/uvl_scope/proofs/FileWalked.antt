@@ -3,6 +3,7 @@ use Rattle.std.proofs.Common.{◌≡◌, ℕ, List, [], ◌∷◌, ◌++◌, Opt
 use Rattle.std.specs.Option.{option_or}
 use Rattle.std.proofs.Math.Path.{fun_ext}
 use Rattle.uvl_ast.specs.declared.expression.Expr.{Expr}
+use Rattle.uvl_ast.specs.declared.feature.Attribute.{Attribute}
 use Rattle.uvl_ast.specs.declared.feature.Feature.{Feature}
 use Rattle.uvl_ast.specs.Rules.{all_rules_of_root, all_rules, rules_of}
 use Rattle.uvl_imports.specs.declared.file_set.Loaded.{Loaded}
@@ -56,7 +57,7 @@ abbrev pub lines_fault : List Scope → Loaded → Feature → Option Finding
 lines_fault scopes loaded root = fault_from (placed_scope scopes loaded) nothing (lines_from root 1)
 
 abbrev pub rules_fault : Brought → List Expr → Option Finding
-rules_fault brought rules = fault_from_rules brought.names brought.rules brought.nodes rules
+rules_fault brought rules = fault_from_rules brought.names brought.attributes brought.rules brought.nodes rules
 
 pub fault_is : (scopes : List Scope) (loaded : Loaded) (root : Feature) → loaded.file.root ≡ Some root
     → fault_in_file scopes loaded ≡ option_or (lines_fault scopes loaded root) (rules_fault (brought_with scopes loaded root) (rules_of loaded.file))
@@ -89,15 +90,16 @@ stop_with A B found more whole e r is sum h =
     subst (λ (x : Result B FileFault). IsFound whole x) (sym is)
     (subst (λ (f : Option Finding). IsFound {A = B} f (Err e)) (sym sum) (err_first B found more e (found_for A B found e h)))
 
-abbrev of_parts : (names : List (List ℕ)) (depth rules nodes : ℕ) → Scope
-of_parts names depth rules nodes = record { names = names; depth = depth; rules = rules; nodes = nodes }
+abbrev of_parts : (names : List (List ℕ)) (attributes : List (List Attribute)) (depth rules nodes : ℕ) → Scope
+of_parts names attributes depth rules nodes = record { names = names; attributes = attributes; depth = depth; rules = rules; nodes = nodes }
 
-same_scope : (a b : Scope) → a.names ≡ b.names → a.depth ≡ b.depth → a.rules ≡ b.rules → a.nodes ≡ b.nodes → a ≡ b
-same_scope a b names depth rules nodes =
-    ap (λ (x : List (List ℕ)). of_parts x a.depth a.rules a.nodes) names
-    ∙ ap (λ (x : ℕ). of_parts b.names x a.rules a.nodes) depth
-    ∙ ap (λ (x : ℕ). of_parts b.names b.depth x a.nodes) rules
-    ∙ ap (λ (x : ℕ). of_parts b.names b.depth b.rules x) nodes
+same_scope : (a b : Scope) → a.names ≡ b.names → a.attributes ≡ b.attributes → a.depth ≡ b.depth → a.rules ≡ b.rules → a.nodes ≡ b.nodes → a ≡ b
+same_scope a b names attributes depth rules nodes =
+    ap (λ (x : List (List ℕ)). of_parts x a.attributes a.depth a.rules a.nodes) names
+    ∙ ap (λ (x : List (List Attribute)). of_parts b.names x a.depth a.rules a.nodes) attributes
+    ∙ ap (λ (x : ℕ). of_parts b.names b.attributes x a.rules a.nodes) depth
+    ∙ ap (λ (x : ℕ). of_parts b.names b.attributes b.depth x a.nodes) rules
+    ∙ ap (λ (x : ℕ). of_parts b.names b.attributes b.depth b.rules x) nodes
 
 -- the walk over the lines of a file begins
 pub record Begun (scopes : List Scope) (loaded : Loaded) (root : Feature) (imports : Imports) (start : Brought) : Type 0 where
@@ -167,10 +169,10 @@ module _ (scopes : List Scope) (loaded : Loaded) (root : Feature) (imports : Imp
 
   -- the scope
   pub scope_is : (tally new : Tally) (lines : List Expr) (scope : Scope) → brought_of tally ≡ brought_with scopes loaded root → lines ≡ loaded.file.rules
-      → AddsRules tally new (all_rules root ++ lines) → scope.names ≡ new.names → scope.depth ≡ new.depth → scope.rules ≡ new.rules → scope.nodes ≡ new.nodes
+      → AddsRules tally new (all_rules root ++ lines) → scope.names ≡ new.names → scope.attributes ≡ new.attributes → scope.depth ≡ new.depth → scope.rules ≡ new.rules → scope.nodes ≡ new.nodes
       → scope ≡ scope_of scopes loaded
-  scope_is tally new lines scope is lines_are adds names depth rules nodes =
-      same_scope scope (scope_with (brought_of tally) (all_rules root ++ lines)) (names ∙ adds.names) (depth ∙ adds.depth) (rules ∙ adds.rules) (nodes ∙ adds.nodes)
+  scope_is tally new lines scope is lines_are adds names attributes depth rules nodes =
+      same_scope scope (scope_with (brought_of tally) (all_rules root ++ lines)) (names ∙ adds.names) (attributes ∙ adds.attributes) (depth ∙ adds.depth) (rules ∙ adds.rules) (nodes ∙ adds.nodes)
       ∙ ap (λ (b : Brought). scope_with b (all_rules root ++ lines)) (is ∙ sym brought_as)
       ∙ ap (scope_with (brought_in scopes loaded)) (ap (λ (ls : List Expr). all_rules root ++ ls) lines_are ∙ sym (rules_are loaded root begun.root_is))
     where

@@ -3,7 +3,10 @@ mod OneAnswer
 mod RuleNodes
 mod Repeats
 mod Dotting
-mod Unknown
+mod InOrder
+mod FactorNodes
+mod NumberParts
+mod FaultsWithin
 mod Distinct
 mod Offering
 mod PlacedParts

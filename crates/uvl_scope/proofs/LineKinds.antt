@@ -82,11 +82,11 @@ with_parts placing before line parts = first_of (
     when (is_placing parts && is_none (placing parts)) (finding UnknownFeature line.reference.place)
     ∷ when (is_placing parts && has before.placed (dotted (front_of parts))) (finding PlacedTwice line.reference.place)
     ∷ when (is_placing parts && has_more line) (finding BodyOnPlacedImport line.reference.place)
-    ∷ when (is_too_deep (brought_at placing line.depth parts) line) (finding TooDeep line.reference.place)
-    ∷ when (has_known_name before (brought_at placing line.depth parts)) (finding DuplicateFeature line.reference.place)
+    ∷ when (is_too_deep (brought_at placing line.depth line.attributes parts) line) (finding TooDeep line.reference.place)
+    ∷ when (has_known_name before (brought_at placing line.depth line.attributes parts)) (finding DuplicateFeature line.reference.place)
     ∷ option_map (finding DuplicateAttribute) (repeated_key line.attributes)
-    ∷ when (is_too_large before (brought_at placing line.depth parts)) (finding TooManyFeatures line.reference.place)
-    ∷ when (is_placing parts && are_too_many (before.rules + (brought_at placing line.depth parts).rules) (before.nodes + (brought_at placing line.depth parts).nodes)) (finding TooManyRules line.reference.place)
+    ∷ when (is_too_large before (brought_at placing line.depth line.attributes parts)) (finding TooManyFeatures line.reference.place)
+    ∷ when (is_placing parts && are_too_many (before.rules + (brought_at placing line.depth line.attributes parts).rules) (before.nodes + (brought_at placing line.depth line.attributes parts).nodes)) (finding TooManyRules line.reference.place)
     ∷ []
     )
 

@@ -144,9 +144,9 @@ module _ (trees : List (Option Tree)) (scopes : List Scope) (loaded : Loaded) (f
       → GroupsFit placing imports (out-Feature line).groups (above + 1) → LineFits placing imports line above
   declares line above name is groups =
       let rest = lines_of_groups (above + 1) (out-Feature line).groups in
-      let brought : brought_by_lines placing (lines_from line (above + 1)) ≡ together (declared (above + 1) name) (brought_by_lines placing rest) =
+      let brought : brought_by_lines placing (lines_from line (above + 1)) ≡ together (declared (above + 1) (out-Feature line).attributes name) (brought_by_lines placing rest) =
       ap (brought_by_lines placing) (lines_at line (above + 1))
-      ∙ ap (λ (ps : List (List ℕ)). together (brought_at placing (above + 1) ps) (brought_by_lines placing rest)) is in
+      ∙ ap (λ (ps : List (List ℕ)). together (brought_at placing (above + 1) (out-Feature line).attributes ps) (brought_by_lines placing rest)) is in
       let deep : max (above + 1) (brought_by_lines placing rest).depth ≡ above + (1 + depth_of_groups groups.below) = omega (arith, groups.depth) in
       record {
         tree = feature (record { name = name; attributes = (out-Feature line).attributes }) groups.below;
@@ -175,7 +175,7 @@ module _ (trees : List (Option Tree)) (scopes : List Scope) (loaded : Loaded) (f
       let here = scope_places trees scopes loaded fit (part ∷ next ∷ parts) scope found in
       let brought : brought_by_lines placing (lines_from line (above + 1)) ≡ together (placed (above + 1) qualifier (Some scope)) nothing =
       ap (brought_by_lines placing) (lines_at line (above + 1))
-      ∙ ap (λ (ps : List (List ℕ)). together (brought_at placing (above + 1) ps) (brought_by_lines placing (lines_of_groups (above + 1) (out-Feature line).groups))) is
+      ∙ ap (λ (ps : List (List ℕ)). together (brought_at placing (above + 1) (out-Feature line).attributes ps) (brought_by_lines placing (lines_of_groups (above + 1) (out-Feature line).groups))) is
       ∙ ap (λ (s : Option Scope). together (placed (above + 1) qualifier s) (brought_by_lines placing (lines_of_groups (above + 1) (out-Feature line).groups))) found
       ∙ ap (λ (gs : List Group). together (placed (above + 1) qualifier (Some scope)) (brought_by_lines placing (lines_of_groups (above + 1) gs))) none in
       let deep : max ((above + 1) + scope.depth - 1) 0 ≡ above + depth_of (prefixed qualifier here.tree) = omega (arith, here.of_tree.depth, depth-prefixed qualifier here.tree) in

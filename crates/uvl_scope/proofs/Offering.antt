@@ -10,9 +10,8 @@ use Rattle.std.proofs.lemmas.Slice.Eq.{bytes_eq-Decides}
 use Rattle.uvl_ast.specs.declared.file.Import.{Import}
 use Rattle.uvl_placing.specs.Names.{qualifier_of, target_called}
 use Rattle.uvl_semantics.specs.Product.{has}
-use Rattle.uvl_scope.specs.Firsts.{when}
-use Rattle.uvl_scope.specs.steps.Offers.{target_among}
-use Rattle.uvl_scope.proofs.Unknown.{or_assoc}
+use Rattle.uvl_scope.specs.Firsts.{beside, when}
+use Rattle.uvl_scope.proofs.InOrder.{or_assoc}
 
 or_when : {A : Type 0} (b : Bool) (x : A) (rest : Option A) → (if b then Some x else rest) ≡ option_or (when b x) rest
 or_when true x rest = refl
@@ -20,32 +19,32 @@ or_when false x rest = refl
 
 -- one more at the end
 pub among-push : (qualifier new : List ℕ) (target : ℕ) (qualifiers : List (List ℕ)) (targets : List ℕ) → length qualifiers ≡ length targets
-    → target_among qualifier (qualifiers ++ new ∷ []) (targets ++ target ∷ [])
-    ≡ option_or (target_among qualifier qualifiers targets) (when (bytes_eq qualifier new) target)
+    → beside qualifier (qualifiers ++ new ∷ []) (targets ++ target ∷ [])
+    ≡ option_or (beside qualifier qualifiers targets) (when (bytes_eq qualifier new) target)
 among-push qualifier new target [] [] even = refl
 among-push qualifier new target [] (t ∷ targets) even = absurd (omega (arith, even))
 among-push qualifier new target (q ∷ qualifiers) [] even = absurd (omega (arith, even))
 among-push qualifier new target (q ∷ qualifiers) (t ∷ targets) even =
-    or_when (bytes_eq qualifier q) t (target_among qualifier (qualifiers ++ new ∷ []) (targets ++ target ∷ []))
+    or_when (bytes_eq qualifier q) t (beside qualifier (qualifiers ++ new ∷ []) (targets ++ target ∷ []))
     ∙ ap (option_or (when (bytes_eq qualifier q) t)) (among-push qualifier new target qualifiers targets (omega (arith, even)))
-    ∙ sym (or_assoc (when (bytes_eq qualifier q) t) (target_among qualifier qualifiers targets) (when (bytes_eq qualifier new) target))
-    ∙ ap (λ (o : Option ℕ). option_or o (when (bytes_eq qualifier new) target)) (sym (or_when (bytes_eq qualifier q) t (target_among qualifier qualifiers targets)))
+    ∙ sym (or_assoc (when (bytes_eq qualifier q) t) (beside qualifier qualifiers targets) (when (bytes_eq qualifier new) target))
+    ∙ ap (λ (o : Option ℕ). option_or o (when (bytes_eq qualifier new) target)) (sym (or_when (bytes_eq qualifier q) t (beside qualifier qualifiers targets)))
 
 -- one that is known adds nothing
 pub among-known : (qualifier new : List ℕ) (target : ℕ) (qualifiers : List (List ℕ)) (targets : List ℕ) → length qualifiers ≡ length targets
     → has qualifiers new ≡ true
-    → target_among qualifier qualifiers targets ≡ option_or (target_among qualifier qualifiers targets) (when (bytes_eq qualifier new) target)
+    → beside qualifier qualifiers targets ≡ option_or (beside qualifier qualifiers targets) (when (bytes_eq qualifier new) target)
 among-known qualifier new target [] targets even known = absurd (false≢true known)
 among-known qualifier new target (q ∷ qualifiers) [] even known = absurd (omega (arith, even))
 among-known qualifier new target (q ∷ qualifiers) (t ∷ targets) even known =
     by (λ k. among-known qualifier new target qualifiers targets (omega (arith, even)) k) (bytes_eq qualifier q) refl (bytes_eq new q) refl (bytes_eq qualifier new) refl
   where
-    by : (has qualifiers new ≡ true → target_among qualifier qualifiers targets ≡ option_or (target_among qualifier qualifiers targets) (when (bytes_eq qualifier new) target))
+    by : (has qualifiers new ≡ true → beside qualifier qualifiers targets ≡ option_or (beside qualifier qualifiers targets) (when (bytes_eq qualifier new) target))
         → (here : Bool) → bytes_eq qualifier q ≡ here → (there : Bool) → bytes_eq new q ≡ there → (same : Bool) → bytes_eq qualifier new ≡ same
-        → (if here then Some t else target_among qualifier qualifiers targets)
-        ≡ option_or (if here then Some t else target_among qualifier qualifiers targets) (when same target)
+        → (if here then Some t else beside qualifier qualifiers targets)
+        ≡ option_or (if here then Some t else beside qualifier qualifiers targets) (when same target)
     by further true is there at same e = refl
-    by further false is there at false e = or_none (target_among qualifier qualifiers targets)
+    by further false is there at false e = or_none (beside qualifier qualifiers targets)
       where
         or_none : (o : Option ℕ) → o ≡ option_or o None
         or_none None = refl
@@ -56,32 +55,32 @@ among-known qualifier new target (q ∷ qualifiers) (t ∷ targets) even known =
         absurd (false≢true (sym is ∙ (bytes_eq-Decides qualifier q).1 (one ∙ two)))
     by further false is false at true e =
         further (ap (λ (b : Bool). b || has qualifiers new) (sym at) ∙ known)
-        ∙ ap (λ (b : Bool). option_or (target_among qualifier qualifiers targets) (when b target)) e
+        ∙ ap (λ (b : Bool). option_or (beside qualifier qualifiers targets) (when b target)) e
 
 -- the lines in front are in the index, and those that are left come behind them
 pub record OffersGoOn (qualifiers : List (List ℕ)) (found : List ℕ) (lines : List Import) (targets : List ℕ) (all : List Import) (all_targets : List ℕ) : Type 0 where
   pub even : length qualifiers ≡ length found
-  pub left : (qualifier : List ℕ) → option_or (target_among qualifier qualifiers found) (target_called qualifier lines targets) ≡ target_called qualifier all all_targets
+  pub left : (qualifier : List ℕ) → option_or (beside qualifier qualifiers found) (target_called qualifier lines targets) ≡ target_called qualifier all all_targets
 
 pub offers_step : (qualifiers new_qualifiers : List (List ℕ)) (found new_found : List ℕ) (line : Import) (lines : List Import) (target : ℕ) (targets : List ℕ)
     (all : List Import) (all_targets : List ℕ) → OffersGoOn qualifiers found (line ∷ lines) (target ∷ targets) all all_targets
     → length new_qualifiers ≡ length new_found
-    → ((qualifier : List ℕ) → target_among qualifier new_qualifiers new_found ≡ option_or (target_among qualifier qualifiers found) (when (bytes_eq qualifier (qualifier_of line)) target))
+    → ((qualifier : List ℕ) → beside qualifier new_qualifiers new_found ≡ option_or (beside qualifier qualifiers found) (when (bytes_eq qualifier (qualifier_of line)) target))
     → OffersGoOn new_qualifiers new_found lines targets all all_targets
 offers_step qualifiers new_qualifiers found new_found line lines target targets all all_targets go even added = record {
   even = even;
   left = λ q. ap (λ (o : Option ℕ). option_or o (target_called q lines targets)) (added q)
-      ∙ or_assoc (target_among q qualifiers found) (when (bytes_eq q (qualifier_of line)) target) (target_called q lines targets)
-      ∙ ap (option_or (target_among q qualifiers found)) (sym (or_when (bytes_eq q (qualifier_of line)) target (target_called q lines targets)))
+      ∙ or_assoc (beside q qualifiers found) (when (bytes_eq q (qualifier_of line)) target) (target_called q lines targets)
+      ∙ ap (option_or (beside q qualifiers found)) (sym (or_when (bytes_eq q (qualifier_of line)) target (target_called q lines targets)))
       ∙ go.left q;
 }
 
 -- where no line or no target is left, all are in the index
 pub offers_end : (qualifiers : List (List ℕ)) (found : List ℕ) (lines : List Import) (targets : List ℕ) (all : List Import) (all_targets : List ℕ)
     → OffersGoOn qualifiers found lines targets all all_targets → ((q : List ℕ) → target_called q lines targets ≡ None)
-    → (qualifier : List ℕ) → target_among qualifier qualifiers found ≡ target_called qualifier all all_targets
+    → (qualifier : List ℕ) → beside qualifier qualifiers found ≡ target_called qualifier all all_targets
 offers_end qualifiers found lines targets all all_targets go none q =
-    or_none (target_among q qualifiers found) ∙ ap (option_or (target_among q qualifiers found)) (sym (none q)) ∙ go.left q
+    or_none (beside q qualifiers found) ∙ ap (option_or (beside q qualifiers found)) (sym (none q)) ∙ go.left q
   where
     or_none : (o : Option ℕ) → o ≡ option_or o None
     or_none None = refl
@@ -96,15 +95,15 @@ at_or_past p i n (x ∷ xs) h = by (at_or_past p (i + 1) n xs) (p x) h
     by further true e = let same : i ≡ n = (cc e) in omega (arith, same)
     by further false e = omega (arith, further e)
 
-none_of : (i : ℕ) (o : Option ℕ) → option_and_then (λ (n : ℕ). slice_get {X = ℕ} [] (n - i)) o ≡ None
-none_of i None = refl
-none_of i (Some n) = refl
+none_of : {A : Type 0} (i : ℕ) (o : Option ℕ) → option_and_then (λ (n : ℕ). slice_get {X = A} [] (n - i)) o ≡ None
+none_of {A} i None = refl
+none_of {A} i (Some n) = refl
 
-among_from : (qualifier : List ℕ) (i : ℕ) (qualifiers : List (List ℕ)) (targets : List ℕ)
-    → option_and_then (λ (n : ℕ). slice_get targets (n - i)) (position_from (bytes_eq qualifier) i qualifiers) ≡ target_among qualifier qualifiers targets
-among_from qualifier i [] targets = refl
-among_from qualifier i (q ∷ qualifiers) [] = none_of i (position_from (bytes_eq qualifier) i (q ∷ qualifiers))
-among_from qualifier i (q ∷ qualifiers) (t ∷ targets) = by (among_from qualifier (i + 1) qualifiers targets) (bytes_eq qualifier q)
+among_from : {A : Type 0} (qualifier : List ℕ) (i : ℕ) (qualifiers : List (List ℕ)) (targets : List A)
+    → option_and_then (λ (n : ℕ). slice_get targets (n - i)) (position_from (bytes_eq qualifier) i qualifiers) ≡ beside qualifier qualifiers targets
+among_from {A} qualifier i [] targets = refl
+among_from {A} qualifier i (q ∷ qualifiers) [] = none_of {A = A} i (position_from (bytes_eq qualifier) i (q ∷ qualifiers))
+among_from {A} qualifier i (q ∷ qualifiers) (t ∷ targets) = by (among_from qualifier (i + 1) qualifiers targets) (bytes_eq qualifier q)
   where
     further : (o : Option ℕ) → ((n : ℕ) → o ≡ Some n → i + 1 ≤ n)
         → option_and_then (λ (n : ℕ). slice_get (t ∷ targets) (n - i)) o ≡ option_and_then (λ (n : ℕ). slice_get targets (n - (i + 1))) o
@@ -113,17 +112,17 @@ among_from qualifier i (q ∷ qualifiers) (t ∷ targets) = by (among_from quali
         let e : n - i ≡ suc (n - (i + 1)) = omega (arith, past n refl) in
         ap (slice_get (t ∷ targets)) e
 
-    by : option_and_then (λ (n : ℕ). slice_get targets (n - (i + 1))) (position_from (bytes_eq qualifier) (i + 1) qualifiers) ≡ target_among qualifier qualifiers targets
+    by : option_and_then (λ (n : ℕ). slice_get targets (n - (i + 1))) (position_from (bytes_eq qualifier) (i + 1) qualifiers) ≡ beside qualifier qualifiers targets
         → (b : Bool) → option_and_then (λ (n : ℕ). slice_get (t ∷ targets) (n - i)) (cond b (Some i) (position_from (bytes_eq qualifier) (i + 1) qualifiers))
-        ≡ (if b then Some t else target_among qualifier qualifiers targets)
+        ≡ (if b then Some t else beside qualifier qualifiers targets)
     by rest true = let e : i - i ≡ 0 = omega arith in ap (slice_get (t ∷ targets)) e
     by rest false =
         further (position_from (bytes_eq qualifier) (i + 1) qualifiers) (λ n. at_or_past (bytes_eq qualifier) (i + 1) n qualifiers)
         ∙ rest
 
-pub among_at : (qualifier : List ℕ) (qualifiers : List (List ℕ)) (targets : List ℕ) (place : Option ℕ) → place ≡ position (bytes_eq qualifier) qualifiers
-    → option_and_then (slice_get targets) place ≡ target_among qualifier qualifiers targets
-among_at qualifier qualifiers targets place is =
+pub among_at : {A : Type 0} (qualifier : List ℕ) (qualifiers : List (List ℕ)) (targets : List A) (place : Option ℕ) → place ≡ position (bytes_eq qualifier) qualifiers
+    → option_and_then (slice_get targets) place ≡ beside qualifier qualifiers targets
+among_at {A} qualifier qualifiers targets place is =
     ap (option_and_then (slice_get targets)) (is ∙ position_from-zero (bytes_eq qualifier) qualifiers)
     ∙ same_shift (position_from (bytes_eq qualifier) 0 qualifiers) ∙ among_from qualifier 0 qualifiers targets
   where
@@ -134,9 +133,9 @@ among_at qualifier qualifiers targets place is =
 -- a qualifier that is known, and one that is new
 pub add_known : (q new text : List ℕ) (target : ℕ) (qualifiers next : List (List ℕ)) (targets : List ℕ) (is_new : Bool) → length qualifiers ≡ length targets
     → text ≡ new → is_new ≡ not (has qualifiers text) → is_new ≡ false → next ≡ (if is_new then qualifiers ++ text ∷ [] else qualifiers)
-    → target_among q next targets ≡ option_or (target_among q qualifiers targets) (when (bytes_eq q new) target)
+    → beside q next targets ≡ option_or (beside q qualifiers targets) (when (bytes_eq q new) target)
 add_known q new text target qualifiers next targets is_new even same tells old becomes =
-    ap (λ (qs : List (List ℕ)). target_among q qs targets) (becomes ∙ ap (λ (b : Bool). if b then qualifiers ++ text ∷ [] else qualifiers) old)
+    ap (λ (qs : List (List ℕ)). beside q qs targets) (becomes ∙ ap (λ (b : Bool). if b then qualifiers ++ text ∷ [] else qualifiers) old)
     ∙ among-known q new target qualifiers targets even (ap (has qualifiers) (sym same) ∙ not_not (has qualifiers text) (sym tells ∙ old))
   where
     not_not : (b : Bool) → not b ≡ false → b ≡ true
@@ -145,8 +144,8 @@ add_known q new text target qualifiers next targets is_new even same tells old b
 
 pub add_new : (q new text : List ℕ) (target : ℕ) (qualifiers next : List (List ℕ)) (targets others : List ℕ) (is_new : Bool) → length qualifiers ≡ length targets
     → text ≡ new → is_new ≡ true → next ≡ (if is_new then qualifiers ++ text ∷ [] else qualifiers) → others ≡ targets ++ target ∷ []
-    → target_among q next others ≡ option_or (target_among q qualifiers targets) (when (bytes_eq q new) target)
+    → beside q next others ≡ option_or (beside q qualifiers targets) (when (bytes_eq q new) target)
 add_new q new text target qualifiers next targets others is_new even same fresh becomes pushed =
-    ap (λ (qs : List (List ℕ)). target_among q qs others)
+    ap (λ (qs : List (List ℕ)). beside q qs others)
     (becomes ∙ ap (λ (b : Bool). if b then qualifiers ++ text ∷ [] else qualifiers) fresh ∙ ap (λ (t : List ℕ). qualifiers ++ t ∷ []) same)
-    ∙ ap (target_among q (qualifiers ++ new ∷ [])) pushed ∙ among-push q new target qualifiers targets even
+    ∙ ap (beside q (qualifiers ++ new ∷ [])) pushed ∙ among-push q new target qualifiers targets even

@@ -1,5 +1,5 @@
 -- What stands in a rule, node by node.
-use Rattle.std.specs.Prelude.{◌≡◌, ℕ, ◌+◌, Bool, true, false, not, ◌||◌, List, [], ◌∷◌, ◌++◌, ℤ, if◌then◌else◌}
+use Rattle.std.specs.Prelude.{◌≡◌, ℕ, ◌+◌, Bool, true, false, not, ◌||◌, List, ℤ}
 use Rattle.std.proofs.Common.{sym, ap, ◌∙◌}
 use Rattle.uvl_base.specs.declared.place.Place.{Place}
 use Rattle.uvl_ast.specs.declared.names.Ref.{Ref}
@@ -10,7 +10,7 @@ use Rattle.uvl_ast.specs.declared.expression.Expr.TheVariants.{rolls-Number, rol
 use Rattle.uvl_ast.specs.declared.expression.Expr.TheOpen.{Expr-F}
 use Rattle.uvl_ast.specs.declared.expression.Expr.TheFolds.{fold-roll-Expr}
 use Rattle.uvl_ast.specs.Nodes.{node_count, nodes_of}
-use Rattle.uvl_scope.specs.Rules.{joins_truths, speaks_of_numbers, has_numbers, references_at, references_in}
+use Rattle.uvl_scope.specs.Rules.{joins_truths, speaks_of_numbers, has_numbers}
 
 pub nodes_number : (v : ℤ) (p : Place) → nodes_of (expr.Number v p) ≡ 1
 nodes_number v p = ap nodes_of (sym (rolls-Number v p)) ∙ fold-roll-Expr ℕ node_count (Expr-F.Number v p)
@@ -42,23 +42,3 @@ numbers_not e p = ap has_numbers (sym (rolls-Not e p)) ∙ fold-roll-Expr Bool s
 pub numbers_binary : (o : BinOp) (left right : Expr) (p : Place)
     → has_numbers (expr.Binary o left right p) ≡ (not (joins_truths o) || has_numbers left || has_numbers right)
 numbers_binary o left right p = ap has_numbers (sym (rolls-Binary o left right p)) ∙ fold-roll-Expr Bool speaks_of_numbers (Expr-F.Binary o left right p)
-
-abbrev References : Type 0
-References = Bool → List Ref
-
-pub references_number : (v : ℤ) (p : Place) (b : Bool) → references_in (expr.Number v p) b ≡ []
-references_number v p b = ap (λ e. references_in e b) (sym (rolls-Number v p)) ∙ ap (λ (f : References). f b) (fold-roll-Expr References references_at (Expr-F.Number v p))
-
-pub references_name : (r : Ref) (b : Bool) → references_in (expr.Name r) b ≡ (if b then r ∷ [] else [])
-references_name r b = ap (λ e. references_in e b) (sym (rolls-Name r)) ∙ ap (λ (f : References). f b) (fold-roll-Expr References references_at (Expr-F.Name r))
-
-pub references_sum : (name : List ℕ) (p : Place) (b : Bool) → references_in (expr.Sum name p) b ≡ []
-references_sum name p b = ap (λ e. references_in e b) (sym (rolls-Sum name p)) ∙ ap (λ (f : References). f b) (fold-roll-Expr References references_at (Expr-F.Sum name p))
-
-pub references_not : (e : Expr) (p : Place) (b : Bool) → references_in (expr.Not e p) b ≡ references_in e true
-references_not e p b = ap (λ e. references_in e b) (sym (rolls-Not e p)) ∙ ap (λ (f : References). f b) (fold-roll-Expr References references_at (Expr-F.Not e p))
-
-pub references_binary : (o : BinOp) (left right : Expr) (p : Place) (b : Bool)
-    → references_in (expr.Binary o left right p) b ≡ references_in left (joins_truths o) ++ references_in right (joins_truths o)
-references_binary o left right p b =
-    ap (λ e. references_in e b) (sym (rolls-Binary o left right p)) ∙ ap (λ (f : References). f b) (fold-roll-Expr References references_at (Expr-F.Binary o left right p))

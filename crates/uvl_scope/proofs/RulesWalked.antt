@@ -7,6 +7,7 @@ use Rattle.uvl_ast.specs.declared.expression.Expr.{Expr}
 use Rattle.uvl_ast.specs.declared.feature.Feature.{Feature, out-Feature}
 use Rattle.uvl_ast.specs.declared.feature.Feature.TheFolds.{fold_out-Feature, fold_out-Group}
 use Rattle.uvl_ast.specs.declared.feature.Group.{Group, out-Group}
+use Rattle.uvl_ast.specs.declared.feature.Attribute.{Attribute}
 use Rattle.uvl_ast.specs.Nodes.{nodes_of}
 use Rattle.uvl_ast.specs.Rules.{feature_rules, group_rules, all_rules, all_rules_of_group}
 use Rattle.uvl_scope.specs.declared.fault.FileFault.{FileFault}
@@ -15,7 +16,7 @@ use Rattle.uvl_scope.specs.LineFaults.{Finding}
 use Rattle.uvl_scope.specs.RuleFaults.{fault_behind_rules}
 use Rattle.uvl_scope.specs.Rules.{nodes_in}
 use Rattle.uvl_scope.specs.steps.Walk.{IsFound, IsWithin, AddsRules, fault_from_rules, fault_in_rules}
-use Rattle.uvl_scope.proofs.Unknown.{or_assoc}
+use Rattle.uvl_scope.proofs.InOrder.{or_assoc}
 use Rattle.uvl_scope.proofs.Walked.{err_first}
 
 -- the rules in braces from a feature on
@@ -30,36 +31,38 @@ nodes-append [] rest = omega arith
 nodes-append (rule ∷ front) rest =
     let e : nodes_of rule + nodes_in (front ++ rest) ≡ (nodes_of rule + nodes_in front) + nodes_in rest = omega (arith, nodes-append front rest) in e
 
-fault-append : (names : List (List ℕ)) (rules nodes : ℕ) (front rest : List Expr)
-    → fault_from_rules names rules nodes (front ++ rest)
-    ≡ option_or (fault_from_rules names rules nodes front) (fault_from_rules names (rules + length front) (nodes + nodes_in front) rest)
-fault-append names rules nodes [] rest =
+fault-append : (names : List (List ℕ)) (attributes : List (List Attribute)) (rules nodes : ℕ) (front rest : List Expr)
+    → fault_from_rules names attributes rules nodes (front ++ rest)
+    ≡ option_or (fault_from_rules names attributes rules nodes front) (fault_from_rules names attributes (rules + length front) (nodes + nodes_in front) rest)
+fault-append names attributes rules nodes [] rest =
     let r : rules ≡ rules + length {A = Expr} [] = omega arith in
     let n : nodes ≡ nodes + nodes_in [] = omega arith in
-    ap (λ (k : ℕ). fault_from_rules names k nodes rest) r ∙ ap (λ (k : ℕ). fault_from_rules names (rules + length {A = Expr} []) k rest) n
-fault-append names rules nodes (rule ∷ front) rest =
+    ap (λ (k : ℕ). fault_from_rules names attributes k nodes rest) r ∙ ap (λ (k : ℕ). fault_from_rules names attributes (rules + length {A = Expr} []) k rest) n
+fault-append names attributes rules nodes (rule ∷ front) rest =
     let r : (rules + 1) + length front ≡ rules + length (rule ∷ front) = omega arith in
     let m : (nodes + nodes_of rule) + nodes_in front ≡ nodes + (nodes_of rule + nodes_in front) = omega arith in
     let n : (nodes + nodes_of rule) + nodes_in front ≡ nodes + nodes_in (rule ∷ front) = m in
-    ap (option_or (fault_behind_rules names rules nodes rule))
-    (fault-append names (rules + 1) (nodes + nodes_of rule) front rest
-    ∙ ap (λ (k : ℕ). option_or (fault_from_rules names (rules + 1) (nodes + nodes_of rule) front) (fault_from_rules names k ((nodes + nodes_of rule) + nodes_in front) rest)) r
-    ∙ ap (λ (k : ℕ). option_or (fault_from_rules names (rules + 1) (nodes + nodes_of rule) front) (fault_from_rules names (rules + length (rule ∷ front)) k rest)) n)
-    ∙ sym (or_assoc (fault_behind_rules names rules nodes rule) (fault_from_rules names (rules + 1) (nodes + nodes_of rule) front)
-    (fault_from_rules names (rules + length (rule ∷ front)) (nodes + nodes_in (rule ∷ front)) rest))
+    ap (option_or (fault_behind_rules names attributes rules nodes rule))
+    (fault-append names attributes (rules + 1) (nodes + nodes_of rule) front rest
+    ∙ ap (λ (k : ℕ). option_or (fault_from_rules names attributes (rules + 1) (nodes + nodes_of rule) front) (fault_from_rules names attributes k ((nodes + nodes_of rule) + nodes_in front) rest)) r
+    ∙ ap (λ (k : ℕ). option_or (fault_from_rules names attributes (rules + 1) (nodes + nodes_of rule) front) (fault_from_rules names attributes (rules + length (rule ∷ front)) k rest)) n)
+    ∙ sym (or_assoc (fault_behind_rules names attributes rules nodes rule) (fault_from_rules names attributes (rules + 1) (nodes + nodes_of rule) front)
+    (fault_from_rules names attributes (rules + length (rule ∷ front)) (nodes + nodes_in (rule ∷ front)) rest))
 
 -- behind rules that are counted
 counted : (here new : Tally) (front rest : List Expr) → AddsRules here new front
     → fault_in_rules here (front ++ rest) ≡ option_or (fault_in_rules here front) (fault_in_rules new rest)
 counted here new front rest adds =
-    fault-append here.names here.rules here.nodes front rest
-    ∙ ap (λ (k : ℕ). option_or (fault_in_rules here front) (fault_from_rules here.names k (here.nodes + nodes_in front) rest)) (sym adds.rules)
-    ∙ ap (λ (k : ℕ). option_or (fault_in_rules here front) (fault_from_rules here.names new.rules k rest)) (sym adds.nodes)
-    ∙ ap (λ (ns : List (List ℕ)). option_or (fault_in_rules here front) (fault_from_rules ns new.rules new.nodes rest)) (sym adds.names)
+    fault-append here.names here.attributes here.rules here.nodes front rest
+    ∙ ap (λ (k : ℕ). option_or (fault_in_rules here front) (fault_from_rules here.names here.attributes k (here.nodes + nodes_in front) rest)) (sym adds.rules)
+    ∙ ap (λ (k : ℕ). option_or (fault_in_rules here front) (fault_from_rules here.names here.attributes new.rules k rest)) (sym adds.nodes)
+    ∙ ap (λ (ns : List (List ℕ)). option_or (fault_in_rules here front) (fault_from_rules ns here.attributes new.rules new.nodes rest)) (sym adds.names)
+    ∙ ap (λ (own : List (List Attribute)). option_or (fault_in_rules here front) (fault_from_rules new.names own new.rules new.nodes rest)) (sym adds.attributes)
 
 pub adds_append : (old mid new : Tally) (front rest : List Expr) → AddsRules old mid front → AddsRules mid new rest → AddsRules old new (front ++ rest)
 adds_append old mid new front rest h k = record {
   names = k.names ∙ h.names;
+  attributes = k.attributes ∙ h.attributes;
   depth = k.depth ∙ h.depth;
   rules = omega (arith, h.rules, k.rules, length-append front rest);
   nodes = omega (arith, h.nodes, k.nodes, nodes-append front rest);
@@ -67,7 +70,7 @@ adds_append old mid new front rest h k = record {
 }
 
 pub adds_none : (tally : Tally) → IsWithin tally → AddsRules tally tally []
-adds_none tally within = record { names = refl; depth = refl; rules = omega arith; nodes = omega arith; within = within }
+adds_none tally within = record { names = refl; attributes = refl; depth = refl; rules = omega arith; nodes = omega arith; within = within }
 
 -- all rules are those in front, which are counted, and those that are left
 pub record RulesGoOn (start here : Tally) (all rest : List Expr) : Type 0 where
@@ -93,8 +96,8 @@ pub rules_stop : {A : Type 0} (start here : Tally) (all front rest : List Expr) 
     → IsFound {A = A} (fault_in_rules here front) (Err e) → IsFound (fault_in_rules start all) r
 rules_stop {A} start here all front rest r e go is h =
     subst (λ (x : Result A FileFault). IsFound (fault_in_rules start all) x) (sym is)
-    (subst (λ (f : Option Finding). IsFound {A = A} f (Err e)) (sym (go.fault ∙ fault-append here.names here.rules here.nodes front rest))
-    (err_first A (fault_in_rules here front) (fault_from_rules here.names (here.rules + length front) (here.nodes + nodes_in front) rest) e h))
+    (subst (λ (f : Option Finding). IsFound {A = A} f (Err e)) (sym (go.fault ∙ fault-append here.names here.attributes here.rules here.nodes front rest))
+    (err_first A (fault_in_rules here front) (fault_from_rules here.names here.attributes (here.rules + length front) (here.nodes + nodes_in front) rest) e h))
 
 -- the rest behind a front without fault
 pub rules_found : {A : Type 0} (here new : Tally) (front rest : List Expr) (r : Result A FileFault) → AddsRules here new front → fault_in_rules here front ≡ None

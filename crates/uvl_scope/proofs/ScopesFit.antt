@@ -34,7 +34,7 @@ module _ (trees : List (Option Tree)) (scopes : List Scope) (loaded : Loaded) (f
       let line = line_fits trees scopes loaded fit root 0 (all_placed placing nothing (lines_from root 1) parts.0) in
       let small : IsSmall (brought_with scopes loaded root) =
       subst IsSmall (brought_all placing (lines_from root 1)) (lines_small placing distinct nothing (lines_from root 1) nothing_small parts.0) in
-      let few = rules_small (brought_with scopes loaded root).names (brought_with scopes loaded root).rules (brought_with scopes loaded root).nodes rules small.few_rules small.few_nodes parts.1 in
+      let few = rules_small (brought_with scopes loaded root).names (brought_with scopes loaded root).attributes (brought_with scopes loaded root).rules (brought_with scopes loaded root).nodes rules small.few_rules small.few_nodes parts.1 in
       let scope : scope_with (brought_with scopes loaded root) rules ≡ scope_of scopes loaded = ap (λ (b : Brought). scope_with b rules) (sym brought) in
       record {
         there = line.tree;

@@ -3,6 +3,7 @@ use Rattle.std.proofs.Common.{◌≡◌, ℕ, ◌+◌, List, [], ◌∷◌, ◌+
 use Rattle.std.specs.Option.{option_or}
 use Rattle.std.proofs.lemmas.List.{append_assoc, append-nil, length-append}
 use Rattle.uvl_ast.specs.declared.expression.Expr.{Expr}
+use Rattle.uvl_ast.specs.declared.feature.Attribute.{Attribute}
 use Rattle.uvl_ast.specs.Nodes.{nodes_of}
 use Rattle.uvl_scope.specs.Brought.{Brought, Placing, nothing, together, brought_by, brought_by_lines}
 use Rattle.uvl_scope.specs.Firsts.{first_along}
@@ -13,28 +14,30 @@ use Rattle.uvl_scope.specs.Rules.{nodes_in}
 use Rattle.uvl_scope.specs.steps.Walk.{fault_from, brought_from, fault_from_rules}
 use Rattle.uvl_scope.proofs.RulesWalked.{nodes-append}
 
-abbrev of_parts : (names placed : List (List ℕ)) (depth rules nodes : ℕ) → Brought
-of_parts names placed depth rules nodes = record { names = names; placed = placed; depth = depth; rules = rules; nodes = nodes }
+abbrev of_parts : (names : List (List ℕ)) (attributes : List (List Attribute)) (placed : List (List ℕ)) (depth rules nodes : ℕ) → Brought
+of_parts names attributes placed depth rules nodes = record { names = names; attributes = attributes; placed = placed; depth = depth; rules = rules; nodes = nodes }
 
 -- what is equal part by part
-same_parts : (a b : Brought) → a.names ≡ b.names → a.placed ≡ b.placed → a.depth ≡ b.depth → a.rules ≡ b.rules → a.nodes ≡ b.nodes → a ≡ b
-same_parts a b names placed depth rules nodes =
-    ap (λ (x : List (List ℕ)). of_parts x a.placed a.depth a.rules a.nodes) names
-    ∙ ap (λ (x : List (List ℕ)). of_parts b.names x a.depth a.rules a.nodes) placed
-    ∙ ap (λ (x : ℕ). of_parts b.names b.placed x a.rules a.nodes) depth
-    ∙ ap (λ (x : ℕ). of_parts b.names b.placed b.depth x a.nodes) rules
-    ∙ ap (λ (x : ℕ). of_parts b.names b.placed b.depth b.rules x) nodes
+same_parts : (a b : Brought) → a.names ≡ b.names → a.attributes ≡ b.attributes → a.placed ≡ b.placed → a.depth ≡ b.depth → a.rules ≡ b.rules → a.nodes ≡ b.nodes → a ≡ b
+same_parts a b names attributes placed depth rules nodes =
+    ap (λ (x : List (List ℕ)). of_parts x a.attributes a.placed a.depth a.rules a.nodes) names
+    ∙ ap (λ (x : List (List Attribute)). of_parts b.names x a.placed a.depth a.rules a.nodes) attributes
+    ∙ ap (λ (x : List (List ℕ)). of_parts b.names b.attributes x a.depth a.rules a.nodes) placed
+    ∙ ap (λ (x : ℕ). of_parts b.names b.attributes b.placed x a.rules a.nodes) depth
+    ∙ ap (λ (x : ℕ). of_parts b.names b.attributes b.placed b.depth x a.nodes) rules
+    ∙ ap (λ (x : ℕ). of_parts b.names b.attributes b.placed b.depth b.rules x) nodes
 
 together_assoc : (a b c : Brought) → together (together a b) c ≡ together a (together b c)
 together_assoc a b c =
-    same_parts (together (together a b) c) (together a (together b c)) (append_assoc a.names b.names c.names) (append_assoc a.placed b.placed c.placed)
+    same_parts (together (together a b) c) (together a (together b c)) (append_assoc a.names b.names c.names)
+    (append_assoc a.attributes b.attributes c.attributes) (append_assoc a.placed b.placed c.placed)
     (omega arith) (omega arith) (omega arith)
 
 pub together_none : (a : Brought) → together a nothing ≡ a
-together_none a = same_parts (together a nothing) a (append-nil a.names) (append-nil a.placed) (omega arith) (omega arith) (omega arith)
+together_none a = same_parts (together a nothing) a (append-nil a.names) (append-nil a.attributes) (append-nil a.placed) (omega arith) (omega arith) (omega arith)
 
 none_together : (a : Brought) → together nothing a ≡ a
-none_together a = same_parts (together nothing a) a refl refl (omega arith) (omega arith) (omega arith)
+none_together a = same_parts (together nothing a) a refl refl refl (omega arith) (omega arith) (omega arith)
 
 -- what lines bring in front of others
 pub brought-append : (placing : Placing) (front rest : List Line)
@@ -75,22 +78,22 @@ first_of_lines placing lines = along_lines placing [] lines
 -- the first fault of rules
 along_rules : (brought : Brought) (front rules : List Expr)
     → first_along (fault_of_rule brought) front rules
-    ≡ fault_from_rules brought.names (brought.rules + length front) (brought.nodes + nodes_in front) rules
+    ≡ fault_from_rules brought.names brought.attributes (brought.rules + length front) (brought.nodes + nodes_in front) rules
 along_rules brought front [] = refl
 along_rules brought front (rule ∷ rules) =
     let count : brought.rules + length (front ++ rule ∷ []) ≡ (brought.rules + length front) + 1 = omega (arith, length-append front (rule ∷ [])) in
     let one : nodes_in (rule ∷ []) ≡ nodes_of rule = omega arith in
     let nodes : brought.nodes + nodes_in (front ++ rule ∷ []) ≡ (brought.nodes + nodes_in front) + nodes_of rule = omega (arith, nodes-append front (rule ∷ []), one) in
-    ap (option_or (fault_behind_rules brought.names (brought.rules + length front) (brought.nodes + nodes_in front) rule))
+    ap (option_or (fault_behind_rules brought.names brought.attributes (brought.rules + length front) (brought.nodes + nodes_in front) rule))
     (along_rules brought (front ++ rule ∷ []) rules
-    ∙ ap (λ (n : ℕ). fault_from_rules brought.names n (brought.nodes + nodes_in (front ++ rule ∷ [])) rules) count
-    ∙ ap (λ (n : ℕ). fault_from_rules brought.names ((brought.rules + length front) + 1) n rules) nodes)
+    ∙ ap (λ (n : ℕ). fault_from_rules brought.names brought.attributes n (brought.nodes + nodes_in (front ++ rule ∷ [])) rules) count
+    ∙ ap (λ (n : ℕ). fault_from_rules brought.names brought.attributes ((brought.rules + length front) + 1) n rules) nodes)
 
 pub first_of_rules : (brought : Brought) (rules : List Expr)
-    → first_along (fault_of_rule brought) [] rules ≡ fault_from_rules brought.names brought.rules brought.nodes rules
+    → first_along (fault_of_rule brought) [] rules ≡ fault_from_rules brought.names brought.attributes brought.rules brought.nodes rules
 first_of_rules brought rules =
     let count : brought.rules + length {A = Expr} [] ≡ brought.rules = omega arith in
     let nodes : brought.nodes + nodes_in [] ≡ brought.nodes = omega arith in
     along_rules brought [] rules
-    ∙ ap (λ (n : ℕ). fault_from_rules brought.names n (brought.nodes + nodes_in []) rules) count
-    ∙ ap (λ (n : ℕ). fault_from_rules brought.names brought.rules n rules) nodes
+    ∙ ap (λ (n : ℕ). fault_from_rules brought.names brought.attributes n (brought.nodes + nodes_in []) rules) count
+    ∙ ap (λ (n : ℕ). fault_from_rules brought.names brought.attributes brought.rules n rules) nodes

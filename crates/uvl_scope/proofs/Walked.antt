@@ -8,7 +8,7 @@ use Rattle.uvl_scope.specs.Brought.{Brought, Placing, brought_by, together}
 use Rattle.uvl_scope.specs.LineFaults.{Finding, fault_behind}
 use Rattle.uvl_scope.specs.Lines.{Line}
 use Rattle.uvl_scope.specs.steps.Walk.{IsFound, fault_from, brought_from}
-use Rattle.uvl_scope.proofs.Unknown.{or_assoc}
+use Rattle.uvl_scope.proofs.InOrder.{or_assoc}
 
 pub fault-append : (placing : Placing) (before : Brought) (front rest : List Line)
     → fault_from placing before (front ++ rest) ≡ option_or (fault_from placing before front) (fault_from placing (brought_from placing before front) rest)

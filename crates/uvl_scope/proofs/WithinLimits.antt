@@ -2,13 +2,13 @@
 use Rattle.std.proofs.Common.{◌≡◌, ℕ, ◌+◌, ◌≤◌, Bool, true, false, List, [], ◌∷◌, ◌++◌, map, length, Option, Some, None, refl, sym, ap, ◌∙◌, subst, arith}
 use Rattle.std.specs.Prelude.{◌||◌, ◌&&◌, nat_lt}
 use Rattle.std.specs.List.{list_any}
-use Rattle.std.specs.Option.{option_map}
 use Rattle.std.specs.Str.{bytes_eq}
 use Rattle.std.proofs.lemmas.Bool.{false≢true}
 use Rattle.std.proofs.lemmas.List.{length-append}
-use Rattle.uvl_base.specs.declared.fault.FaultKind.TheVariants.{UnknownFeature, TooManyRules}
+use Rattle.uvl_base.specs.declared.fault.FaultKind.TheVariants.{TooManyRules}
 use Rattle.uvl_base.specs.Limits.{most_features, most_depth}
 use Rattle.uvl_ast.specs.declared.expression.Expr.{Expr}
+use Rattle.uvl_ast.specs.declared.feature.Attribute.{Attribute}
 use Rattle.uvl_ast.specs.Nodes.{nodes_of}
 use Rattle.uvl_imports.specs.Texts.{AreDistinct}
 use Rattle.uvl_placing.specs.Names.{dotted, front_of}
@@ -18,8 +18,9 @@ use Rattle.uvl_scope.specs.Firsts.{when, first_of}
 use Rattle.uvl_scope.specs.LineFaults.{finding, fault_behind, fault_of_feature, are_too_many}
 use Rattle.uvl_scope.specs.Limits.{most_rules, most_nodes}
 use Rattle.uvl_scope.specs.Lines.{FeatureLine, Line, of_feature, of_group}
-use Rattle.uvl_scope.specs.RuleFaults.{fault_behind_rules, unknown_place}
-use Rattle.uvl_scope.specs.Rules.{nodes_in, place_of, references_of}
+use Rattle.uvl_scope.specs.NumberFaults.{fault_inside}
+use Rattle.uvl_scope.specs.RuleFaults.{fault_behind_rules}
+use Rattle.uvl_scope.specs.Rules.{nodes_in, place_of}
 use Rattle.uvl_scope.specs.steps.Walk.{fault_from, brought_from, fault_from_rules}
 use Rattle.uvl_scope.proofs.Distinct.{eq-sym, has-append, has-under}
 use Rattle.uvl_scope.proofs.NoFault.{neither, fails, fail_both, not_less, line_is_fine}
@@ -77,14 +78,14 @@ record BringsFew (parts : List (List ℕ)) (brought : Brought) : Type 0 where
   no_rules : is_placing parts ≡ false → brought.rules ≡ 0
   no_nodes : is_placing parts ≡ false → brought.nodes ≡ 0
 
-brings_few : (placing : Placing) → PlacesDistinct placing → (depth : ℕ) (parts : List (List ℕ)) → BringsFew parts (brought_at placing depth parts)
-brings_few placing distinct depth [] = record {
+brings_few : (placing : Placing) → PlacesDistinct placing → (depth : ℕ) (attributes : List Attribute) (parts : List (List ℕ)) → BringsFew parts (brought_at placing depth attributes parts)
+brings_few placing distinct depth attributes [] = record {
   distinct = placed_distinct depth (dotted (front_of [])) (placing []) (distinct []);
   no_rules = λ is. absurd (false≢true (sym is));
   no_nodes = λ is. absurd (false≢true (sym is));
 }
-brings_few placing distinct depth (name ∷ []) = record { distinct = (refl, tt); no_rules = λ is. refl; no_nodes = λ is. refl }
-brings_few placing distinct depth (part ∷ next ∷ parts) = record {
+brings_few placing distinct depth attributes (name ∷ []) = record { distinct = (refl, tt); no_rules = λ is. refl; no_nodes = λ is. refl }
+brings_few placing distinct depth attributes (part ∷ next ∷ parts) = record {
   distinct = placed_distinct depth (dotted (front_of (part ∷ next ∷ parts))) (placing (part ∷ next ∷ parts)) (distinct (part ∷ next ∷ parts));
   no_rules = λ is. absurd (false≢true (sym is));
   no_nodes = λ is. absurd (false≢true (sym is));
@@ -121,7 +122,7 @@ line_small : (placing : Placing) → PlacesDistinct placing → (before : Brough
     → IsSmall (together before (brought_by placing line))
 line_small placing distinct before (of_group line) small h = subst IsSmall (sym (together_none before)) small
 line_small placing distinct before (of_feature line) small h =
-    feature_small placing before (brought_by placing (of_feature line)) line (brings_few placing distinct line.depth line.reference.parts) small h
+    feature_small placing before (brought_by placing (of_feature line)) line (brings_few placing distinct line.depth line.attributes line.reference.parts) small h
 
 -- lines without fault bring what is within the limits
 pub lines_small : (placing : Placing) → PlacesDistinct placing → (before : Brought) (lines : List Line) → IsSmall before → fault_from placing before lines ≡ None
@@ -132,15 +133,15 @@ lines_small placing distinct before (line ∷ lines) small h =
     lines_small placing distinct (together before (brought_by placing line)) lines (line_small placing distinct before line small parts.0) parts.1
 
 -- so many rules without fault are within the limits
-pub rules_small : (names : List (List ℕ)) (rules nodes : ℕ) (list : List Expr) → rules ≤ most_rules → nodes ≤ most_nodes → fault_from_rules names rules nodes list ≡ None
+pub rules_small : (names : List (List ℕ)) (attributes : List (List Attribute)) (rules nodes : ℕ) (list : List Expr) → rules ≤ most_rules → nodes ≤ most_nodes → fault_from_rules names attributes rules nodes list ≡ None
     → (rules + length list ≤ most_rules) × (nodes + nodes_in list ≤ most_nodes)
-rules_small names rules nodes [] few light h = (omega (arith, few), omega (arith, light))
-rules_small names rules nodes (rule ∷ list) few light h =
-    let parts = neither (fault_behind_rules names rules nodes rule) (fault_from_rules names (rules + 1) (nodes + nodes_of rule) list) h in
+rules_small names attributes rules nodes [] few light h = (omega (arith, few), omega (arith, light))
+rules_small names attributes rules nodes (rule ∷ list) few light h =
+    let parts = neither (fault_behind_rules names attributes rules nodes rule) (fault_from_rules names attributes (rules + 1) (nodes + nodes_of rule) list) h in
     let first = neither (when (are_too_many (rules + 1) (nodes + nodes_of rule)) (finding TooManyRules (place_of rule)))
-    (first_of (option_map (finding UnknownFeature) (unknown_place names (references_of rule)) ∷ [])) parts.0 in
+    (first_of (fault_inside names attributes rule ∷ [])) parts.0 in
     let here = few_enough (rules + 1) (nodes + nodes_of rule) (fails (are_too_many (rules + 1) (nodes + nodes_of rule)) (finding TooManyRules (place_of rule)) first.0) in
-    let rest = rules_small names (rules + 1) (nodes + nodes_of rule) list here.0 here.1 parts.1 in
+    let rest = rules_small names attributes (rules + 1) (nodes + nodes_of rule) list here.0 here.1 parts.1 in
     let count : rules + length (rule ∷ list) ≤ most_rules = omega (arith, rest.0) in
     let sum : nodes + (nodes_of rule + nodes_in list) ≤ most_nodes = omega (arith, rest.1) in
     (count, sum)

@@ -42,13 +42,15 @@ fault_in_file scopes loaded = first_of (
 abbrev pub scope_with : Brought → List Expr → Scope
 scope_with brought rules = record {
   names = brought.names;
+  attributes = brought.attributes;
   depth = brought.depth;
   rules = brought.rules + length rules;
   nodes = brought.nodes + nodes_in rules;
 }
 
--- What is in scope in a file: the names of its placed tree in document order, the depth of that tree, and how many
--- rules and nodes of rules there are, those of placed files with them. The scopes are those of the files in front.
+-- What is in scope in a file: the names of its placed tree in document order with the attributes beside them, the depth
+-- of that tree, and how many rules and nodes of rules there are, those of placed files with them. The scopes are those
+-- of the files in front.
 abbrev pub scope_of : List Scope → Loaded → Scope
 scope_of scopes loaded = scope_with (brought_in scopes loaded) (rules_of loaded.file)
 

@@ -5,6 +5,7 @@ pub mod Keys
 pub mod Rules
 pub mod Brought
 pub mod LineFaults
+pub mod NumberFaults
 pub mod RuleFaults
 pub mod Faults
 pub mod Spelling

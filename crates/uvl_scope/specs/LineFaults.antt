@@ -10,17 +10,14 @@ use Rattle.uvl_ast.specs.declared.feature.GroupKind.{GroupKind}
 use Rattle.uvl_ast.specs.declared.feature.GroupKind.TheVariants.{Mandatory, Optional, Alternative, Or, Range}
 use Rattle.uvl_semantics.specs.Product.{has}
 use Rattle.uvl_placing.specs.Names.{dotted, front_of}
+pub use Rattle.uvl_scope.specs.declared.fault.Finding.{Finding}
 use Rattle.uvl_scope.specs.Brought.{Brought, Placing, is_placing, brought_by, brought_by_lines}
 use Rattle.uvl_scope.specs.Firsts.{when, first_of}
 use Rattle.uvl_scope.specs.Keys.{repeated_key}
 use Rattle.uvl_scope.specs.Limits.{most_rules, most_nodes}
 use Rattle.uvl_scope.specs.Lines.{FeatureLine, GroupLine, Line, of_feature, of_group}
 
--- what is wrong in a file, and where
-pub record Finding : Type 0 where
-  pub place : Place
-  pub kind : FaultKind
-
+-- a fault of this kind at a place
 abbrev pub finding : FaultKind → Place → Finding
 finding kind place = record { place = place; kind = kind }
 

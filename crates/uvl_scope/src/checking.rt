@@ -18,7 +18,7 @@ use uvl_imports::{FileSet, Loaded};
 
 /// What is in scope in the files of a set, unless something is wrong with one of them, or some rule speaks
 /// of numbers, which aren't built yet. The fault is the first: that of the first file that has one.
-pub fn check(alloc: Global, files: &FileSet) -> Result<Scopes, ScopeFault>
+pub fn check<'a>(alloc: Global, files: &'a FileSet) -> Result<Scopes<'a>, ScopeFault>
     ensures accepted { IfOk result (λ scopes. IsAccepted files.now.files) }
     ensures scopes { IfOk result (λ scopes. scopes.scopes ≡ scopes_of files.now.files) }
     ensures trees { IfOk result (λ scopes. AreScopesOf files.now.files scopes.scopes) }
@@ -32,7 +32,7 @@ pub fn check(alloc: Global, files: &FileSet) -> Result<Scopes, ScopeFault>
 }
 
 /// The scopes of files, unless something is wrong with one of them.
-fn scopes_of(alloc: Global, files: &[Loaded]) -> Result<Items<Scope>, ScopeFault>
+fn scopes_of<'a>(alloc: Global, files: &'a [Loaded]) -> Result<Items<Scope<'a>>, ScopeFault>
     ensures fine { IfOk result (λ scopes. HasNoFault files.now) }
     ensures scopes { IfOk result (λ scopes. scopes ≡ scopes_of files.now) }
     ensures cause { IfErr result (IsCauseOf files.now) }
@@ -46,7 +46,11 @@ fn scopes_of(alloc: Global, files: &[Loaded]) -> Result<Items<Scope>, ScopeFault
 }
 
 /// The scope of a file behind those with these scopes, unless something is wrong with it.
-fn scope_of(alloc: Global, scopes: &[Scope], loaded: &Loaded) -> Result<Scope, ScopeFault>
+fn scope_of<'a>(
+    alloc: Global,
+    scopes: &[Scope<'a>],
+    loaded: &'a Loaded,
+) -> Result<Scope<'a>, ScopeFault>
     ensures fine { IfOk result (λ scope. fault_in_file scopes.now loaded.now ≡ None) }
     ensures scope { IfOk result (λ scope. scope ≡ scope_of scopes.now loaded.now) }
     ensures cause { IfErr result (IsCauseIn loaded.now (fault_in_file scopes.now loaded.now)) }
@@ -78,7 +82,11 @@ fn fault_at(loaded: &Loaded, place: Place, kind: FaultKind) -> ScopeFault
 }
 
 /// The scope of a file behind those with these scopes, unless something is wrong at a place of it.
-fn checked(alloc: Global, scopes: &[Scope], loaded: &Loaded) -> Result<Scope, FileFault>
+fn checked<'a>(
+    alloc: Global,
+    scopes: &[Scope<'a>],
+    loaded: &'a Loaded,
+) -> Result<Scope<'a>, FileFault>
     ensures found { IsFound (fault_in_file scopes.now loaded.now) result }
     ensures scope { IfOk result (λ scope. scope ≡ scope_of scopes.now loaded.now) }
 {

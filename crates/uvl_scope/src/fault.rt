@@ -22,6 +22,13 @@ impl From<OutOfMemory> for ScopeFault {
     }
 }
 
+/// What is wrong in a file, and where.
+#[derive(Clone, Copy, Debug, PartialEq, Eq)]
+pub(crate) struct Finding {
+    pub(crate) place: Place,
+    pub(crate) kind: FaultKind,
+}
+
 /// Why a file is not accepted.
 #[derive(Clone, Copy, Debug, PartialEq, Eq)]
 pub(crate) enum FileFault {

@@ -3,9 +3,9 @@ ghost use Rattle.std.specs.Prelude.{◌≡◌, ℕ, List, length, chars, string_
 ghost use Rattle.std.specs.Option.{option_or};
 ghost use Rattle.std.specs.Str.{bytes_eq};
 ghost use Rattle.uvl_placing.specs.Names.{qualifier_of};
-ghost use Rattle.uvl_scope.specs.Firsts.{when};
+ghost use Rattle.uvl_scope.specs.Firsts.{beside, when};
 ghost use Rattle.uvl_scope.specs.Brought.{scope_at, with_root};
-ghost use Rattle.uvl_scope.specs.steps.Offers.{Calls, target_among};
+ghost use Rattle.uvl_scope.specs.steps.Offers.{Calls};
 
 use crate::names::NameIndex;
 use crate::scope::Scope;
@@ -49,8 +49,8 @@ impl Imports {
     fn add(&mut self, alloc: Global, line: &Import, target: u32) -> Result<(), OutOfMemory>
         requires { length self.old.qualifiers ≡ length self.old.targets }
         ensures even { OnOk result (length self.new.qualifiers ≡ length self.new.targets) }
-        ensures offers { OnOk result ((qualifier : List ℕ) → target_among qualifier self.new.qualifiers self.new.targets
-            ≡ option_or (target_among qualifier self.old.qualifiers self.old.targets)
+        ensures offers { OnOk result ((qualifier : List ℕ) → beside qualifier self.new.qualifiers self.new.targets
+            ≡ option_or (beside qualifier self.old.qualifiers self.old.targets)
             (when (bytes_eq qualifier (qualifier_of line.now)) target)) }
     {
         let qualifier = qualifier_of(alloc, line)?;
@@ -63,7 +63,7 @@ impl Imports {
 
     /// The position of the file that is called so.
     fn target(&self, qualifier: &str) -> Option<u32>
-        ensures { result ≡ target_among (chars qualifier.now) self.now.qualifiers self.now.targets }
+        ensures { result ≡ beside (chars qualifier.now) self.now.qualifiers self.now.targets }
     {
         let number = self.qualifiers.find(qualifier)?;
         self.targets.get(number).copied()
@@ -71,14 +71,14 @@ impl Imports {
 
     /// The scope of the file that a reference places, whose last name is its root's, and whose other names
     /// joined by dots are this qualifier.
-    pub(crate) fn placed<'a>(
+    pub(crate) fn placed<'s, 'a>(
         &self,
-        scopes: &'a [Scope],
+        scopes: &'s [Scope<'a>],
         qualifier: &str,
         root: &Name,
-    ) -> Option<&'a Scope>
+    ) -> Option<&'s Scope<'a>>
         ensures { option_copied result ≡ with_root root.now (scope_at scopes.now
-            (target_among (chars qualifier.now) self.now.qualifiers self.now.targets)) }
+            (beside (chars qualifier.now) self.now.qualifiers self.now.targets)) }
     {
         let target = self.target(qualifier)?;
         let scope = scopes.get(target as usize)?;

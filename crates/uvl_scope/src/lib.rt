@@ -1,7 +1,9 @@
 //! What is wrong in a set of files, and which names are in scope in each of them.
 #![tactic(auto)]
 
+mod attributes;
 mod checking;
+mod factors;
 mod fault;
 mod imports;
 mod keys;
@@ -9,6 +11,8 @@ mod law;
 mod limits;
 mod names;
 mod numbers;
+mod references;
+mod rule_faults;
 mod rule_walk;
 mod rules;
 mod scope;
@@ -16,6 +20,7 @@ mod spelling;
 mod tally;
 mod walk;
 
+pub use attributes::AttributeLists;
 pub use checking::check;
 pub use fault::ScopeFault;
 pub use law::each_set_has_one_answer;

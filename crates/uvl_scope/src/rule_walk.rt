@@ -8,12 +8,13 @@ ghost use Rattle.uvl_scope.specs.steps.Walk.{AddsRules, IsFound, IsWithin, fault
 
 use crate::fault::FileFault;
 use crate::limits::{MOST_NODES, MOST_RULES};
-use crate::rules::{first_unknown, nodes_left, place_of};
+use crate::rule_faults::first_fault;
+use crate::rules::{nodes_left, place_of};
 use crate::tally::Tally;
 use uvl_ast::{Expr, Feature, Group};
 use uvl_base::FaultKind;
 
-impl Tally {
+impl<'a> Tally<'a> {
     /// Counts the rules of a file: those in braces of its root line and of all below it, and then those of
     /// its lines.
     pub(crate) fn add_all_rules(&mut self, root: &Feature, lines: &[Expr]) -> Result<(), FileFault>
@@ -29,8 +30,10 @@ impl Tally {
     /// Counts a rule, unless something is wrong with it. The text is for names that dots join.
     pub(crate) fn add_rule(&mut self, text: &mut String, rule: &Expr) -> Result<(), FileFault>
         requires { IsWithin self.old }
-        ensures found { IsFound (fault_behind_rules self.old.names self.old.rules self.old.nodes rule.now) result }
+        ensures found { IsFound (fault_behind_rules self.old.names self.old.attributes
+            self.old.rules self.old.nodes rule.now) result }
         ensures names { self.new.names ≡ self.old.names }
+        ensures attributes { self.new.attributes ≡ self.old.attributes }
         ensures depth { self.new.depth ≡ self.old.depth }
         ensures rules { OnOk result (self.new.rules ≡ self.old.rules + 1) }
         ensures nodes { OnOk result (self.new.nodes ≡ self.old.nodes + nodes_of rule.now) }
@@ -46,10 +49,10 @@ impl Tally {
         let Some(left) = nodes_left(rule, MOST_NODES - self.nodes) else {
             return Err(too_many);
         };
-        if let Some(place) = first_unknown(&self.names, text, rule, true)? {
+        if let Some(found) = first_fault(&self.names, &self.attributes, text, rule, true)? {
             return Err(FileFault::At {
-                place,
-                kind: FaultKind::UnknownFeature,
+                place: found.place,
+                kind: found.kind,
             });
         }
         self.rules += 1;

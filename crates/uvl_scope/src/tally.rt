@@ -10,6 +10,7 @@ ghost use Rattle.uvl_scope.specs.steps.Lines.{fault_of_declared, fault_of_names,
 ghost use Rattle.uvl_scope.specs.steps.Walk.{IsFound, IsWithin, brought_of};
 ghost use Rattle.uvl_scope.specs.steps.Offers.{placed_by};
 
+use crate::attributes::AttributeLists;
 use crate::fault::FileFault;
 use crate::imports::Imports;
 use crate::keys::repeated_key;
@@ -24,24 +25,26 @@ use uvl_base::{FaultKind, MOST_DEPTH, MOST_FEATURES, Name, Place};
 /// What the lines so far brought: names in document order, the qualifiers that are placed, how deep the
 /// deepest feature stands, and how many rules the placed files have, with how many nodes.
 #[derive(Drop)]
-pub(crate) struct Tally {
+pub(crate) struct Tally<'a> {
     pub(crate) alloc: Global,
     pub(crate) names: NameIndex,
+    pub(crate) attributes: AttributeLists<'a>,
     pub(crate) placed: NameIndex,
     pub(crate) depth: usize,
     pub(crate) rules: usize,
     pub(crate) nodes: usize,
 }
 
-impl Tally {
+impl<'a> Tally<'a> {
     /// Nothing is brought yet.
-    pub(crate) fn new(alloc: Global) -> Tally
+    pub(crate) fn new(alloc: Global) -> Tally<'a>
         ensures nothing { brought_of result ≡ nothing }
         ensures within { IsWithin result }
     {
         Tally {
             alloc,
             names: NameIndex::new(alloc),
+            attributes: AttributeLists::new(alloc),
             placed: NameIndex::new(alloc),
             depth: 0,
             rules: 0,
@@ -50,14 +53,16 @@ impl Tally {
     }
 
     /// What is in scope in the file.
-    pub(crate) fn into_scope(self) -> Scope
-        ensures names { result.names ≡ self.names }
-        ensures depth { result.depth ≡ self.depth }
-        ensures rules { result.rules ≡ self.rules }
-        ensures nodes { result.nodes ≡ self.nodes }
+    pub(crate) fn into_scope(self) -> Scope<'a>
+        ensures names { result.names ≡ self.entry.names }
+        ensures attributes { result.attributes ≡ self.entry.attributes }
+        ensures depth { result.depth ≡ self.entry.depth }
+        ensures rules { result.rules ≡ self.entry.rules }
+        ensures nodes { result.nodes ≡ self.entry.nodes }
     {
         Scope {
             names: self.names,
+            attributes: self.attributes,
             depth: self.depth,
             rules: self.rules,
             nodes: self.nodes,
@@ -67,7 +72,7 @@ impl Tally {
     /// Adds the feature that a line declares at a depth, unless something is wrong with the line.
     pub(crate) fn declare(
         &mut self,
-        line: &Feature,
+        line: &'a Feature,
         name: &Name,
         depth: usize,
     ) -> Result<(), FileFault>
@@ -75,7 +80,8 @@ impl Tally {
         ensures found { IsFound
             (fault_of_declared (brought_of self.old) name.now (line_of (out-Feature line.now) depth)) result }
         ensures brought { OnOk result
-            (brought_of self.new ≡ together (brought_of self.old) (declared depth name.now)) }
+            (brought_of self.new ≡ together (brought_of self.old)
+            (declared depth (out-Feature line.now).attributes name.now)) }
         ensures within { OnOk result (IsWithin self.new) }
         ensures shallow { OnOk result (depth ≤ most_depth) }
     {
@@ -104,6 +110,7 @@ impl Tally {
                 kind: FaultKind::TooManyFeatures,
             });
         }
+        self.attributes.push(line.attributes.as_slice())?;
         self.depth = self.depth.max(depth);
         Ok(())
     }
@@ -111,9 +118,9 @@ impl Tally {
     /// Adds the tree that a line places at a depth, unless something is wrong with the line.
     pub(crate) fn place(
         &mut self,
-        scopes: &[Scope],
+        scopes: &[Scope<'a>],
         imports: &Imports,
-        line: &Feature,
+        line: &'a Feature,
         depth: usize,
     ) -> Result<(), FileFault>
         requires within { IsWithin self.old }
@@ -145,9 +152,9 @@ impl Tally {
     /// Adds the tree of a scope under a qualifier at a depth, unless something is wrong with the line.
     fn place_scope(
         &mut self,
-        scope: &Scope,
+        scope: &Scope<'a>,
         qualifier: &str,
-        line: &Feature,
+        line: &'a Feature,
         depth: usize,
     ) -> Result<(), FileFault>
         requires within { IsWithin self.old }
@@ -185,7 +192,7 @@ impl Tally {
     /// too much. Where there is no room for the names, none of them is made.
     fn place_names(
         &mut self,
-        scope: &Scope,
+        scope: &Scope<'a>,
         qualifier: &str,
         place: Place,
         depth: usize,
@@ -197,6 +204,7 @@ impl Tally {
             (placed depth (chars qualifier.now) (Some scope.now)) place) result }
         ensures names { OnOk result
             (self.new.names ≡ self.old.names ++ map (prefixed_name (chars qualifier.now)) scope.now.names) }
+        ensures attributes { OnOk result (self.new.attributes ≡ self.old.attributes ++ scope.now.attributes) }
         ensures placed { self.new.placed ≡ self.old.placed }
         ensures depth { OnOk result (self.new.depth ≡ max self.old.depth (depth + scope.now.depth - 1)) }
         ensures rules { OnOk result (self.new.rules ≡ self.old.rules + scope.now.rules) }
@@ -218,6 +226,7 @@ impl Tally {
                 kind: FaultKind::DuplicateFeature,
             });
         }
+        self.attributes.append(&scope.attributes)?;
         self.depth = self.depth.max(depth + scope.depth - 1);
         self.rules += scope.rules;
         self.nodes += scope.nodes;
@@ -225,7 +234,7 @@ impl Tally {
     }
 
     /// What there would be too many of with a scope.
-    fn overflow(&self, scope: &Scope) -> Option<FaultKind>
+    fn overflow(&self, scope: &Scope<'a>) -> Option<FaultKind>
         requires { IsWithin self.now }
         ensures { result ≡ overflow (brought_of self.now) scope.now }
     {

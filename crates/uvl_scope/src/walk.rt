@@ -16,15 +16,15 @@ use crate::tally::Tally;
 use uvl_ast::{Feature, Group, GroupKind};
 use uvl_base::{FaultKind, Name};
 
-impl Tally {
+impl<'a> Tally<'a> {
     /// Adds what the line of a feature brings, and then what the lines below it bring, up to the first
     /// line with which something is wrong.
     #[cycle(walk)]
     pub(crate) fn add_feature(
         &mut self,
-        scopes: &[Scope],
+        scopes: &[Scope<'a>],
         imports: &Imports,
-        line: &Feature,
+        line: &'a Feature,
         depth: usize,
     ) -> Result<(), FileFault>
         requires within { IsWithin self.old }
@@ -44,9 +44,9 @@ impl Tally {
     #[cycle(walk)]
     fn add_groups(
         &mut self,
-        scopes: &[Scope],
+        scopes: &[Scope<'a>],
         imports: &Imports,
-        groups: &[Group],
+        groups: &'a [Group],
         depth: usize,
     ) -> Result<(), FileFault>
         requires within { IsWithin self.old }
@@ -68,9 +68,9 @@ impl Tally {
     #[cycle(walk)]
     fn add_group(
         &mut self,
-        scopes: &[Scope],
+        scopes: &[Scope<'a>],
         imports: &Imports,
-        group: &Group,
+        group: &'a Group,
         depth: usize,
     ) -> Result<(), FileFault>
         requires within { IsWithin self.old }
@@ -95,9 +95,9 @@ impl Tally {
     #[cycle(walk)]
     fn add_members(
         &mut self,
-        scopes: &[Scope],
+        scopes: &[Scope<'a>],
         imports: &Imports,
-        members: &[Feature],
+        members: &'a [Feature],
         depth: usize,
     ) -> Result<(), FileFault>
         requires within { IsWithin self.old }
@@ -118,9 +118,9 @@ impl Tally {
     /// Adds what the line of a feature at a depth brings, unless something is wrong with it.
     fn add_line(
         &mut self,
-        scopes: &[Scope],
+        scopes: &[Scope<'a>],
         imports: &Imports,
-        line: &Feature,
+        line: &'a Feature,
         depth: usize,
     ) -> Result<(), FileFault>
         requires within { IsWithin self.old }

@@ -3,6 +3,7 @@ use Rattle.std.specs.Prelude.{◌≡◌, ⊤, ℕ, ◌+◌, ◌≤◌, List, [],
 use Rattle.std.specs.Option.{option_or}
 use Rattle.uvl_base.specs.Limits.{most_features}
 use Rattle.uvl_ast.specs.declared.expression.Expr.{Expr}
+use Rattle.uvl_ast.specs.declared.feature.Attribute.{Attribute}
 use Rattle.uvl_ast.specs.Nodes.{nodes_of}
 use Rattle.uvl_scope.specs.declared.fault.FileFault.{FileFault}
 use Rattle.uvl_scope.specs.declared.fault.FileFault.TheVariants as fault
@@ -18,6 +19,7 @@ use Rattle.uvl_scope.specs.Rules.{nodes_in}
 abbrev pub brought_of : Tally → Brought
 brought_of tally = record {
   names = tally.names;
+  attributes = tally.attributes;
   placed = tally.placed;
   depth = tally.depth;
   rules = tally.rules;
@@ -43,11 +45,12 @@ fault_from placing before (line ∷ lines) =
     option_or (fault_behind placing before line) (fault_from placing (together before (brought_by placing line)) lines)
 
 -- the first fault of rules, behind so many rules with so many nodes
-abbrev pub fault_from_rules : List (List ℕ) → (rules nodes : ℕ) → List Expr → Option Finding
-fault_from_rules names rules nodes [] = None
-fault_from_rules names rules nodes (rule ∷ others) =
-    option_or (fault_behind_rules names rules nodes rule)
-    (fault_from_rules names (rules + 1) (nodes + nodes_of rule) others)
+abbrev pub fault_from_rules :
+    List (List ℕ) → List (List Attribute) → (rules nodes : ℕ) → List Expr → Option Finding
+fault_from_rules names attributes rules nodes [] = None
+fault_from_rules names attributes rules nodes (rule ∷ others) =
+    option_or (fault_behind_rules names attributes rules nodes rule)
+    (fault_from_rules names attributes (rules + 1) (nodes + nodes_of rule) others)
 
 -- what was brought before, with what lines bring
 abbrev pub brought_from : Placing → Brought → List Line → Brought
@@ -57,6 +60,7 @@ brought_from placing before (line ∷ lines) = brought_from placing (together be
 -- rules are counted behind the others, and nothing else changes
 pub record AddsRules (old new : Tally) (added : List Expr) : Type 0 where
   pub names : new.names ≡ old.names
+  pub attributes : new.attributes ≡ old.attributes
   pub depth : new.depth ≡ old.depth
   pub rules : new.rules ≡ old.rules + length added
   pub nodes : new.nodes ≡ old.nodes + nodes_in added
@@ -64,4 +68,4 @@ pub record AddsRules (old new : Tally) (added : List Expr) : Type 0 where
 
 -- the first fault of rules, behind those that are counted
 abbrev pub fault_in_rules : Tally → List Expr → Option Finding
-fault_in_rules tally rules = fault_from_rules tally.names tally.rules tally.nodes rules
+fault_in_rules tally rules = fault_from_rules tally.names tally.attributes tally.rules tally.nodes rules

@@ -59,4 +59,4 @@ returns-clause-scope c =
     let tally = c.add_feature.new.self in
     scope_is scopes loaded root imports start begun tally c.add_all_rules.new.self c.as_slice-3.result.now c.into_scope.result
     (brought_met scopes loaded root imports start begun (brought_of tally) c.in_ok-add_feature.ensures.brought) c.as_slice-3.ensures
-    c.in_ok-add_all_rules.ensures.adds c.into_scope.ensures.names c.into_scope.ensures.depth c.into_scope.ensures.rules c.into_scope.ensures.nodes
+    c.in_ok-add_all_rules.ensures.adds c.into_scope.ensures.names c.into_scope.ensures.attributes c.into_scope.ensures.depth c.into_scope.ensures.rules c.into_scope.ensures.nodes

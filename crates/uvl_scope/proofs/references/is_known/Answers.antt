@@ -4,7 +4,7 @@ use Rattle.std.specs.Prelude.{chars}
 use Rattle.uvl_placing.specs.Names.{dotted}
 use Rattle.uvl_semantics.specs.Product.{has}
 use Rattle.uvl_scope.proofs.Dotting.{behind_nothing}
-use Rattle.uvl_scope.proofs.rules.is_known.Goals as goal
+use Rattle.uvl_scope.proofs.references.is_known.Goals as goal
 
 pub returns : goal.returns
 returns c =
