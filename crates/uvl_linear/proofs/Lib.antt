@@ -1,0 +1,5 @@
+pub mod FormLemmas
+pub mod PlainLemmas
+pub mod Products
+pub mod Remaining
+pub mod ValueLemmas

@@ -1,0 +1,4 @@
+pub mod Numbered
+pub mod Sessions
+pub mod Answers
+pub mod Desk

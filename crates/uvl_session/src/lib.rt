@@ -1,0 +1,15 @@
+//! Configuration sessions over the products of one model.
+#![tactic(auto)]
+
+mod decision;
+mod desk;
+mod opening;
+mod refusal;
+mod sessions;
+mod stages;
+
+pub use decision::Decision;
+pub use desk::Desk;
+pub use refusal::DeskRefusal;
+pub use sessions::{MOST_SESSIONS, OpenSession, Sessions};
+pub use stages::Stages;
