@@ -25,10 +25,13 @@ pub fn dead(
     requires { IsCompiled it.now.model kernel.now it.now.map it.now.products }
     ensures features { IfOk result (λ features.
         features.items ≡ filter (is_dead_in it.now.model) (all_features it.now.model)) }
-    ensures names { IfOk result (λ features. map (name_in it.now.model) features.items ≡ dead_of (Products it.now.model)) }
+    ensures names { IfOk result (λ features.
+        map (name_in it.now.model) features.items ≡ dead_of (Products it.now.model)) }
     ensures there { IfOk result (λ features. AreThere it.now.model features.items) }
-    ensures void { is_void (Products it.now.model) ≡ true → IsErrAnd result (λ refusal. refusal ≡ AnalysisRefusal.VoidModel) }
-    ensures only_void { IfErr result (λ refusal. refusal ≡ AnalysisRefusal.VoidModel → is_void (Products it.now.model) ≡ true) }
+    ensures void { is_void (Products it.now.model) ≡ true →
+        IsErrAnd result (λ refusal. refusal ≡ AnalysisRefusal.VoidModel) }
+    ensures only_void { IfErr result (λ refusal.
+        refusal ≡ AnalysisRefusal.VoidModel → is_void (Products it.now.model) ≡ true) }
 {
     if void(kernel, it) {
         return Err(AnalysisRefusal::VoidModel);
@@ -45,10 +48,13 @@ pub fn core(
     requires { IsCompiled it.now.model kernel.now it.now.map it.now.products }
     ensures features { IfOk result (λ features.
         features.items ≡ filter (is_core_in it.now.model) (all_features it.now.model)) }
-    ensures names { IfOk result (λ features. map (name_in it.now.model) features.items ≡ core_of (Products it.now.model)) }
+    ensures names { IfOk result (λ features.
+        map (name_in it.now.model) features.items ≡ core_of (Products it.now.model)) }
     ensures there { IfOk result (λ features. AreThere it.now.model features.items) }
-    ensures void { is_void (Products it.now.model) ≡ true → IsErrAnd result (λ refusal. refusal ≡ AnalysisRefusal.VoidModel) }
-    ensures only_void { IfErr result (λ refusal. refusal ≡ AnalysisRefusal.VoidModel → is_void (Products it.now.model) ≡ true) }
+    ensures void { is_void (Products it.now.model) ≡ true →
+        IsErrAnd result (λ refusal. refusal ≡ AnalysisRefusal.VoidModel) }
+    ensures only_void { IfErr result (λ refusal.
+        refusal ≡ AnalysisRefusal.VoidModel → is_void (Products it.now.model) ≡ true) }
 {
     if void(kernel, it) {
         return Err(AnalysisRefusal::VoidModel);
@@ -64,7 +70,8 @@ fn impossible(
     value: bool,
 ) -> Result<Vec<FeatureNo>, OutOfMemory>
     requires { IsCompiled it.now.model kernel.now it.now.map it.now.products }
-    ensures { IfOk result (λ features. features.items ≡ filter (is_never it.now.model value) (all_features it.now.model)) }
+    ensures { IfOk result (λ features.
+        features.items ≡ filter (is_never it.now.model value) (all_features it.now.model)) }
 {
     // Laws, and that the model is sound: they are facts for the proof.
     products_are_sets();

@@ -20,8 +20,9 @@ use std::alloc::Global;
 use uvl_compile::Compiled;
 use uvl_model::{FeatureNo, GroupRow, products_are_sets};
 
-/// The false-optional features, in document order: members of a group that lets its parent leave one out, which aren't dead
-/// and which every product that has their parent has. It makes no node, and walks the diagram once for each such group.
+/// The false-optional features, in document order: members of a group that lets its parent leave one out, which aren't
+/// dead and which every product that has their parent has. It makes no node, and walks the diagram once for each such
+/// group.
 pub fn false_optional(
     kernel: &Kernel,
     alloc: Global,
@@ -30,10 +31,13 @@ pub fn false_optional(
     requires { IsCompiled it.now.model kernel.now it.now.map it.now.products }
     ensures features { IfOk result (λ features.
         features.items ≡ filter (is_false_optional it.now.model) (all_features it.now.model)) }
-    ensures names { IfOk result (λ features. map (name_in it.now.model) features.items ≡ false_optional_of it.now.model) }
+    ensures names { IfOk result (λ features.
+        map (name_in it.now.model) features.items ≡ false_optional_of it.now.model) }
     ensures there { IfOk result (λ features. AreThere it.now.model features.items) }
-    ensures void { is_void (Products it.now.model) ≡ true → IsErrAnd result (λ refusal. refusal ≡ AnalysisRefusal.VoidModel) }
-    ensures only_void { IfErr result (λ refusal. refusal ≡ AnalysisRefusal.VoidModel → is_void (Products it.now.model) ≡ true) }
+    ensures void { is_void (Products it.now.model) ≡ true →
+        IsErrAnd result (λ refusal. refusal ≡ AnalysisRefusal.VoidModel) }
+    ensures only_void { IfErr result (λ refusal.
+        refusal ≡ AnalysisRefusal.VoidModel → is_void (Products it.now.model) ≡ true) }
 {
     if void(kernel, it) {
         return Err(AnalysisRefusal::VoidModel);
@@ -63,7 +67,8 @@ fn kept_members(
     marked(alloc, &kept)
 }
 
-/// Marks the members of a group that come with their parent and aren't dead, where the group lets its parent leave one out.
+/// Marks the members of a group that come with their parent and aren't dead, where the group lets its parent leave one
+/// out.
 fn mark_group(
     kernel: &Kernel,
     alloc: Global,
@@ -110,7 +115,8 @@ fn mark_members(
     requires may { All (λ v. v.0 < length open.now) vars.now }
     requires given { All (λ v. v.0 < length given.now) vars.now }
     ensures { (n : ℕ) → n < length vars.now → get_or kept.new n false
-        ≡ (get_or kept.old n false || (is_named members.now (numbered n) && stays vars.now open.now given.now (numbered n))) }
+        ≡ (get_or kept.old n false
+            || (is_named members.now (numbered n) && stays vars.now open.now given.now (numbered n))) }
 {
     for member in members {
         let var = vars[member.0 as usize];

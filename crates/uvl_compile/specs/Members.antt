@@ -27,8 +27,8 @@ pub record IsAmong (features : ℕ) (row : GroupRow) : Type 0 where
   pub members : All (λ f. f.0 < features) row.members
   pub rising : IsRisingFrom 0 row.members
 
--- The parts that are made of a row: the parent and members of it by their variables. Where the parent is true, from `low`
--- to `high` of the members are, and else none.
+-- The parts that are made of a row: the parent and members of it by their variables. Where the parent is true, from
+-- `low` to `high` of the members are, and else none.
 abbrev pub choice_by_parent : Var → List Var → ℕ → ℕ → Function
 choice_by_parent parent members low high =
     fork parent.0 (cardinality members 0 0) (cardinality members low high)

@@ -1,10 +1,13 @@
-//! In which order a model's conditions are met: plans. A condition is a group, or a rule behind the groups, by its number.
-//! Of a plan nothing is claimed: what it leaves out is met behind it.
+//! In which order a model's conditions are met: plans. A condition is a group, or a rule behind the groups, by its
+//! number. Of a plan nothing is claimed: one that leaves a condition out answers nothing.
 use crate::span::{Span, span_of};
 use dd_store::OutOfMemory;
 use std::alloc::Global;
 use uvl_base::MOST_DEPTH;
 use uvl_model::{FeatureNo, FeatureRow, GroupRow, Model};
+
+/// How far apart the features of a rule may stand for it to be met as soon as the groups of the first one are.
+const SHORT_SPAN: u32 = 32;
 
 /// Where a condition stands in a plan: places are met in this order.
 #[derive(Clone, Copy, Debug, PartialEq, Eq, PartialOrd, Ord)]
@@ -18,7 +21,8 @@ struct Place {
 }
 
 /// Each feature's groups from the last feature up, so that all below a feature is met before its variable is. Each rule
-/// behind the groups of the smallest subtree that has its features, and of these the shortest first.
+/// behind the groups of its first feature where its features stand near each other, else behind those of the smallest
+/// subtree that has its features, and of these the shortest first.
 pub(crate) fn near(alloc: Global, model: &Model) -> Result<Vec<usize>, OutOfMemory> {
     let groups = model.groups();
     let ends = subtree_ends(alloc, model.features())?;
@@ -27,7 +31,7 @@ pub(crate) fn near(alloc: Global, model: &Model) -> Result<Vec<usize>, OutOfMemo
     for (number, rule) in model.rules().iter().enumerate() {
         let span = span_of(rule);
         places.push(Place {
-            down: u32::MAX - feature_above(model.features(), &ends, &parents, span),
+            down: u32::MAX - feature_before(model.features(), &ends, &parents, span),
             rank: span.length().saturating_add(1),
             number: groups.len().saturating_add(number),
         })?;
@@ -111,6 +115,14 @@ fn are_parents(
         }
     }
     Ok(parents)
+}
+
+/// The feature behind whose groups a rule with a span is met.
+fn feature_before(features: &[FeatureRow], ends: &[usize], parents: &[bool], span: Span) -> u32 {
+    if span.length() <= SHORT_SPAN {
+        return span.least;
+    }
+    feature_above(features, ends, parents, span)
 }
 
 /// The deepest feature that has groups and whose subtree has a span.

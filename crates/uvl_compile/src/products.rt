@@ -19,8 +19,8 @@ use std::alloc::Global;
 use uvl_functions::{VarMap, models_give_products};
 use uvl_model::Model;
 
-/// A handle whose value for an assignment is whether the features with a true variable are a product of the model. Other
-/// variables have no say. No rule may have a comparison.
+/// A handle whose value for an assignment is whether the features with a true variable are a product of the model.
+/// Other variables have no say. No rule may have a comparison.
 ///
 /// Two plans go in front: each meets the conditions of the model in an order that keeps diagrams small. Where both meet
 /// the budget, all is given back, and the order of the listed groups is gone, of which alone a refusal speaks.

@@ -34,8 +34,8 @@ impl Span {
     }
 }
 
-/// Between which features a rule stands. Left operands are a loop, and right ones are calls, as rules are as deep to the
-/// left as they are long.
+/// Between which features a rule stands. Left operands are a loop, and right ones are calls, as rules are as deep to
+/// the left as they are long.
 pub(crate) fn span_of(rule: &Rule) -> Span {
     let mut part = rule;
     let mut span = Span::EMPTY;

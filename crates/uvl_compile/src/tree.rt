@@ -20,8 +20,8 @@ use std::alloc::Global;
 use uvl_functions::{VarMap, literal, models_give_products};
 use uvl_model::{FeatureNo, GroupRow, Model};
 
-/// A handle whose value for an assignment is whether the features with a true variable are a product of the model's tree
-/// alone.
+/// A handle whose value for an assignment is whether the features with a true variable are a product of the model's
+/// tree alone.
 pub fn compile_tree(
     kernel: &mut Kernel,
     alloc: Global,

@@ -16,7 +16,8 @@ use std::alloc::Global;
 use uvl_functions::{VarMap, literal};
 use uvl_model::{FeatureNo, Rule};
 
-/// The handle of a rule without operands. A comparison counts as no, as in the plain check of a model; no caller has one.
+/// The handle of a rule without operands. A comparison counts as no, as in the plain check of a model; no caller has
+/// one.
 pub(crate) fn leaf(
     kernel: &mut Kernel,
     alloc: Global,

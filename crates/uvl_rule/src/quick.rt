@@ -24,9 +24,10 @@ use uvl_model::Rule;
 /// A handle whose value says whether a rule holds for the features whose variables are true, as that of `listed_rule`.
 /// Nothing is said of why it is refused for the budget: the halves of a chain aren't parts of the rule.
 ///
-/// As it is written, a chain of n literals makes a diagram of each of its fronts, some n * n / 2 nodes where the literals
-/// go down the order; in halves it makes some n * log n. Each right operand is four calls deep, and one more for each
-/// halving of its chain: in a rule of a model, with its 8,192 nodes at most, fewer than 4,200 calls are open at once.
+/// As it is written, a chain of n literals makes a diagram of each of its fronts, some n * n / 2 nodes where the
+/// literals go down the order; in halves it makes some n * log n. Each right operand is four calls deep, and one more
+/// for each halving of its chain: in a rule of a model, with its 8,192 nodes at most, fewer than 4,200 calls are open at
+/// once.
 #[cycle(quick)]
 pub fn quick_rule(
     kernel: &mut Kernel,
