@@ -52,23 +52,23 @@ impl Results {
         }
     }
 
-    /// The answer to a question, where it is kept.
+    /// The answer to a question, where it is kept. The list is asked only where the question's place tells of it.
+    #[inline(never)]
     pub(crate) fn recall(&self, question: Question) -> Option<NodeNo>
         ensures { IfSome result (λ r. Contains self.now (question, r)) }
     {
         match self.places.recall(question) {
             Some(answer) => Some(answer),
-            None => self.recall_listed(question),
+            None => if self.places.hides(question) { self.recall_listed(question) } else { None },
         }
     }
 
-    /// The answer to a question, where the list has it. The list is asked only where the question's place tells of it.
+    /// The answer to a question, where the list has it.
+    #[cold]
+    #[inline(never)]
     fn recall_listed(&self, question: Question) -> Option<NodeNo>
         ensures { IfSome result (λ r. Contains self.now (question, r)) }
     {
-        if !self.places.hides(question) {
-            return None;
-        }
         let list = self.list.as_ref()?;
         list.peek(&question).copied()
     }
@@ -81,6 +81,7 @@ impl Results {
     }
 
     /// Keeps an answer, where there is memory for it.
+    #[inline(never)]
     pub(crate) fn keep(&mut self, alloc: Global, question: Question, answer: NodeNo)
         ensures { (p : Asked × NodeNumber) → Contains self.new p → Contains self.old p ⊎ (p ≡ (question, answer)) }
     {
@@ -90,6 +91,8 @@ impl Results {
     }
 
     /// Puts a result into the list, where there is memory for it.
+    #[cold]
+    #[inline(never)]
     fn list_one(&mut self, alloc: Global, displaced: Kept)
         ensures { (p : Asked × NodeNumber) → Contains self.new p →
             Contains self.old p ⊎ (p ≡ (displaced.question, displaced.answer)) }
@@ -113,6 +116,8 @@ impl Results {
     }
 
     /// Lets all results go.
+    #[cold]
+    #[inline(never)]
     pub(crate) fn forget(&mut self)
         ensures { self.new ≡ [] }
     {

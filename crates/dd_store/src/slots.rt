@@ -130,6 +130,7 @@ impl Slots {
     }
 
     /// The number of a new node with this row: one that is free, and else the next one.
+    #[inline(always)]
     pub(crate) fn add(&mut self, alloc: Global, row: Row) -> Result<NodeNo, OutOfMemory>
         requires variable { row.var.0 < self.old.variables }
         requires room { nodes_in self.old < most_budget }

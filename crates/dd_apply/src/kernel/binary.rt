@@ -6,7 +6,6 @@ ghost use Rattle.dd_store.specs.Size.{Function};
 ghost use Rattle.dd_store.specs.Table.{Table as OneTable};
 
 use crate::kernel::Kernel;
-use crate::kernel::ite::settle_choice;
 use crate::operation::Operation;
 use crate::question::Question;
 use dd_store::{Handle, NodeNo, OutOfMemory, Refusal, Var};
@@ -46,8 +45,8 @@ impl Kernel {
             (2 * (length self.old.order - min (top_of self.old a.0) (top_of self.old b.0) + 1))) }
     {
         let _order = self.order();
-        if let Some(node) = self.known(operation, a, b) {
-            return Ok(self.hold_known(question_of(operation, a, b), node)?);
+        if let Some((node, recalled)) = self.known(operation, a, b) {
+            return Ok(self.hold_known(question_of(operation, a, b), node, recalled)?);
         }
         let var = self.tested(self.higher(a, b));
         let (low_a, high_a) = self.past(var, a);
@@ -63,21 +62,31 @@ impl Kernel {
     }
 
     /// What the operation makes of two nodes, where that is known without a recursion: it is a constant or one of them,
-    /// or is kept. The cache is asked only of what an operation may meet more than once.
-    fn known(&self, operation: Operation, a: NodeNo, b: NodeNo) -> Option<NodeNo>
+    /// or is kept; and whether it is kept. The cache is asked only of what an operation may meet more than once.
+    fn known(&self, operation: Operation, a: NodeNo, b: NodeNo) -> Option<(NodeNo, bool)>
         requires a_held { IsHeld self.now a.0 }
         requires b_held { IsHeld self.now b.0 }
-        ensures right { IfSome result (λ r. IsRight self.now (Question.Binary operation a b) r.0) }
+        ensures right { IfSome result (λ r. IsRight self.now (Question.Binary operation a b) r.0.0) }
         ensures nodes { IfNone result ((2 ≤ a.0) ⊎ (2 ≤ b.0)) }
     {
         let _order = self.order();
         match operation.settle(a, b) {
-            Some(node) => Some(node),
-            None => self.recall(question_of(operation, a, b)),
+            Some(node) => Some((node, false)),
+            None => self.recalled(question_of(operation, a, b)),
         }
     }
 
+    /// The kept answer to a question, where it is worth asking, with the mark of what is kept.
+    #[inline(always)]
+    pub(crate) fn recalled(&self, question: Question) -> Option<(NodeNo, bool)>
+        ensures { IfSome result (λ r. IsRight self.now question r.0.0) }
+    {
+        let node = self.recall(question)?;
+        Some((node, true))
+    }
+
     /// The kept answer to a question, where it is worth asking.
+    #[inline(always)]
     pub(crate) fn recall(&self, question: Question) -> Option<NodeNo>
         ensures { IfSome result (λ r. IsRight self.now question r.0) }
     {
@@ -88,11 +97,12 @@ impl Kernel {
         }
     }
 
-    /// A handle on the answer to a question, of which the cache learns that it was of use.
+    /// A handle on the answer to a question. Where it was recalled, the cache learns that it was of use.
     pub(crate) fn hold_known(
         &mut self,
         question: Question,
         node: NodeNo,
+        recalled: bool,
     ) -> Result<Handle, OutOfMemory>
         requires { IsThere (row_of self.old) node.0 }
         ensures place { IfOk result (λ h. h ≡ node.0) }
@@ -101,7 +111,7 @@ impl Kernel {
         ensures refused { OnErr result (KeepsHandles self.old self.new) }
         ensures grows { Grows self.old self.new 0 }
     {
-        if is_asked(question) && self.is_worth(question) {
+        if recalled {
             self.results.note(question);
         }
         self.hold(node)
@@ -120,6 +130,7 @@ impl Kernel {
     }
 
     /// Keeps the answer to a question, where it is worth asking.
+    #[inline(always)]
     pub(crate) fn keep(&mut self, alloc: Global, question: Question, answer: NodeNo)
         requires { IsRight self.old question answer.0 }
         ensures { self.new ≡ self.old }
@@ -172,15 +183,6 @@ impl Kernel {
             let node = self.node_of(handle);
             self.keep(alloc, question, node);
         }
-    }
-}
-
-/// Whether the cache is asked: the question isn't answered for every table.
-fn is_asked(question: Question) -> bool {
-    match question {
-        Question::Binary(operation, a, b) => operation.settle(a, b).is_none(),
-        Question::Ite(c, a, b) => settle_choice(c, a, b).is_none(),
-        Question::Implies(_, _) => false,
     }
 }
 

@@ -42,8 +42,8 @@ impl Kernel {
             2 * (length self.old.order - top + 1))) }
     {
         let _order = self.order();
-        if let Some(node) = self.known_choice(c, a, b) {
-            return Ok(self.hold_known(Question::Ite(c, a, b), node)?);
+        if let Some((node, recalled)) = self.known_choice(c, a, b) {
+            return Ok(self.hold_known(Question::Ite(c, a, b), node, recalled)?);
         }
         let lower = self.higher(a, b);
         let var = self.tested(self.higher(c, lower));
@@ -60,24 +60,25 @@ impl Kernel {
         }
     }
 
-    /// What is chosen of two nodes, where that is known without a recursion: it is one of the three, or is kept.
-    fn known_choice(&self, c: NodeNo, a: NodeNo, b: NodeNo) -> Option<NodeNo>
+    /// What is chosen of two nodes, where that is known without a recursion: it is one of the three, or is kept; and
+    /// whether it is kept.
+    fn known_choice(&self, c: NodeNo, a: NodeNo, b: NodeNo) -> Option<(NodeNo, bool)>
         requires c_held { IsHeld self.now c.0 }
         requires a_held { IsHeld self.now a.0 }
         requires b_held { IsHeld self.now b.0 }
-        ensures right { IfSome result (λ r. IsRight self.now (Question.Ite c a b) r.0) }
+        ensures right { IfSome result (λ r. IsRight self.now (Question.Ite c a b) r.0.0) }
         ensures node { IfNone result (2 ≤ c.0) }
     {
         let _order = self.order();
         match settle_choice(c, a, b) {
-            Some(node) => Some(node),
-            None => self.recall(Question::Ite(c, a, b)),
+            Some(node) => Some((node, false)),
+            None => self.recalled(Question::Ite(c, a, b)),
         }
     }
 }
 
 /// What is chosen of two nodes by a third, where that is one of them for every table.
-pub(crate) fn settle_choice(c: NodeNo, a: NodeNo, b: NodeNo) -> Option<NodeNo>
+fn settle_choice(c: NodeNo, a: NodeNo, b: NodeNo) -> Option<NodeNo>
     ensures settled { IfSome result (λ r. SettlesChoice c.0 a.0 b.0 r.0) }
     ensures node { IfNone result (2 ≤ c.0) }
 {

@@ -17,6 +17,7 @@ impl Kernel {
     ///
     /// Where a new node is wanted and the table holds as many as its budget, it collects as `collect` does. Where that
     /// frees nothing, the answer is `OverBudget`.
+    #[inline(never)]
     pub fn node(
         &mut self,
         alloc: Global,
@@ -91,6 +92,7 @@ ghost use Rattle.dd_store.specs.Table.{IsVariable, IsLive};
 ghost use Rattle.dd_apply.specs.Room.{HasRoomFor};
 
 /// Forgets all results where a node with this row could be had only behind a collection.
+#[inline(always)]
 fn forget_unless_room(store: &Store, results: &mut Results, row: Row)
     requires { IsVariable store.now row.var.0 }
     ensures { (HasRoomFor store.now row × (results.new ≡ results.old)) ⊎ (results.new ≡ []) }
@@ -110,6 +112,7 @@ fn has_room_for(store: &Store, row: Row) -> bool
 
 /// Counts the ends of the node that was made, where the number of nodes tells that it is new. There may be no memory
 /// for the counts of some nodes.
+#[inline(always)]
 fn count_ends(
     ends: &mut Vec<u8>,
     store: &Store,
@@ -122,29 +125,28 @@ fn count_ends(
     if let Ok(handle) = made
         && store.nodes() != before
     {
-        set_end(ends, store.node_of(handle), 0);
-        let low = count_of(ends, row.low);
-        set_end(ends, row.low, low.saturating_add(1));
-        let high = count_of(ends, row.high);
-        set_end(ends, row.high, high.saturating_add(1));
+        begin_count(ends, store.node_of(handle));
+        count_end(ends, row.low);
+        count_end(ends, row.high);
     }
 }
 
-/// The count of a node; none counts as 0.
-fn count_of(ends: &[u8], node: NodeNo) -> u8 {
-    match ends.get(node.0 as usize) {
-        Some(count) => *count,
-        None => 0,
-    }
-}
-
-/// Notes the count of a node, where there is memory for it.
-fn set_end(ends: &mut Vec<u8>, node: NodeNo, count: u8) {
+/// Sets the count of a new node to 0, where there is memory for it. Mostly it is the next one behind those that have a
+/// count.
+fn begin_count(ends: &mut Vec<u8>, node: NodeNo) {
     let at = node.0 as usize;
-    if ends.len() <= at {
+    if let Some(count) = ends.get_mut(at) {
+        *count = 0;
+    } else if ends.len() == at {
+        let _kept = ends.push(0);
+    } else {
         let _kept = ends.resize(at + 1, 0);
     }
-    if let Some(place) = ends.get_mut(at) {
-        *place = count;
+}
+
+/// Counts an end of a new node, where it has a count.
+fn count_end(ends: &mut [u8], node: NodeNo) {
+    if let Some(count) = ends.get_mut(node.0 as usize) {
+        *count = count.saturating_add(1);
     }
 }

@@ -138,6 +138,8 @@ pub(crate) fn hang(variables: &mut [Chains], node: NodeNo, row: &Row) -> NodeNo
 }
 
 /// Twice as many heads, with the nodes in the chains of these; nothing where memory is wanting.
+#[cold]
+#[inline(never)]
 fn spread(alloc: Global, slots: &mut [Slot], old: &[NodeNo], var: Var) -> Option<Vec<NodeNo>>
     requires some { 0 < length old.now }
     requires few { 2 * length old.now < 2 ^ 32 }

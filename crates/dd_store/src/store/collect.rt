@@ -15,6 +15,8 @@ impl Store {
     ghost use Rattle.dd_store.specs.Handles.{KeepsHandles};
 
     /// Frees exactly the nodes that no live handle reaches, and answers how many those are. It takes no memory.
+    #[cold]
+    #[inline(never)]
     pub fn collect(&mut self) -> u32
         ensures collected { IsCollected self.old self.new }
         ensures count { node_count self.new + result ≡ node_count self.old }

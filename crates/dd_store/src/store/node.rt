@@ -23,6 +23,7 @@ impl Store {
     ///
     /// Where a new node is wanted and the table holds as many as its budget, it collects as `collect` does. Where that
     /// frees nothing, the answer is `OverBudget`.
+    #[inline(always)]
     pub fn node(
         &mut self,
         alloc: Global,
@@ -140,6 +141,8 @@ impl Store {
     }
 
     /// A handle on a new node with this row, which no node has, in a full table, which is collected before.
+    #[cold]
+    #[inline(never)]
     fn collect_and_add(&mut self, alloc: Global, row: Row) -> Result<Handle, Refusal>
         requires variable { IsVariable self.old row.var.0 }
         requires ends_live { (b : Bool) → IsLive self.old (end_of row b) }
@@ -168,6 +171,7 @@ impl Store {
     }
 
     /// A handle on a new node with this row, which no node has, in a table with room for it.
+    #[inline(always)]
     fn add(&mut self, alloc: Global, row: Row) -> Result<Handle, OutOfMemory>
         requires variable { IsVariable self.old row.var.0 }
         requires ends_there { (b : Bool) → IsThere (row_of self.old) (end_of row b) }
