@@ -57,9 +57,11 @@ impl Results {
     pub(crate) fn recall(&self, question: Question) -> Option<NodeNo>
         ensures { IfSome result (λ r. Contains self.now (question, r)) }
     {
-        match self.places.recall(question) {
-            Some(answer) => Some(answer),
-            None => if self.places.hides(question) { self.recall_listed(question) } else { None },
+        let (answer, hides) = self.places.recall(question);
+        if answer.is_none() && hides {
+            self.recall_listed(question)
+        } else {
+            answer
         }
     }
 

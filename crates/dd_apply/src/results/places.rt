@@ -77,23 +77,15 @@ impl Places {
         self.places[place_of(question, self.places.len())]
     }
 
-    /// The answer to a question, where it is in its place.
-    pub(crate) fn recall(&self, question: Question) -> Option<NodeNo>
-        ensures { IfSome result (λ r. Contains self.now (question, r)) }
+    /// The answer to a question, where it is in its place; and whether the result that stood there before went into
+    /// the list.
+    pub(crate) fn recall(&self, question: Question) -> (Option<NodeNo>, bool)
+        ensures { IfSome result.0 (λ r. Contains self.now (question, r)) }
     {
-        let kept = self.at(question)?;
-        if kept.question == question {
-            Some(kept.answer)
-        } else {
-            None
-        }
-    }
-
-    /// Whether the result that stood in the question's place before went into the list.
-    pub(crate) fn hides(&self, question: Question) -> bool {
         match self.at(question) {
-            Some(kept) => kept.hides,
-            None => false,
+            Some(kept) if kept.question == question => (Some(kept.answer), kept.hides),
+            Some(kept) => (None, kept.hides),
+            None => (None, false),
         }
     }
 
@@ -174,7 +166,8 @@ fn place_of(question: Question, size: usize) -> usize
     hash_of(question) as usize % size
 }
 
-/// A hash of a question: the numbers in it are multiplied by large odd ones, and of the sum the leading bits are taken.
+/// A hash of a question: the numbers in it but the first one are multiplied by large odd ones. So where the first one alone
+/// differs by little, as of nodes that were made one after another, the places are near each other in memory.
 fn hash_of(question: Question) -> u32 {
     match question {
         Question::Binary(Operation::And, a, b) => mixed(a, b, 0),
@@ -187,8 +180,7 @@ fn hash_of(question: Question) -> u32 {
 
 /// The hash of three numbers.
 fn mixed(a: NodeNo, b: NodeNo, c: u32) -> u32 {
-    let first = u64::from(a.0).wrapping_mul(11_400_714_819_323_198_485);
-    let second = u64::from(b.0).wrapping_mul(14_029_467_366_897_019_727);
-    let third = u64::from(c).wrapping_mul(1_609_587_929_392_839_161);
-    (first.wrapping_add(second).wrapping_add(third) / 4_294_967_296) as u32
+    let second = b.0.wrapping_mul(2_654_435_761);
+    let third = c.wrapping_mul(2_246_822_519);
+    a.0.wrapping_add(second).wrapping_add(third)
 }
