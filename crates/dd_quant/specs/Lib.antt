@@ -2,3 +2,4 @@ pub mod Possible
 pub mod Offers
 pub mod Cause
 pub mod steps
+pub mod Exists

@@ -4,3 +4,4 @@ pub mod Given
 pub mod Walk
 pub mod Noted
 pub mod Remembered
+pub mod Replaced

@@ -1,5 +1,5 @@
-//! Questions about the value of a handle: with a variable fixed, whether something makes it true, and what it leaves
-//! open.
+//! Questions about the value of a handle: with a variable fixed or without some, whether
+//! something makes it true, and what it leaves open.
 #![tactic(auto)]
 
 mod choices;
@@ -11,6 +11,7 @@ mod memo;
 mod noted;
 mod offer;
 mod possibility;
+mod quantification;
 mod restriction;
 mod walk;
 
@@ -19,4 +20,5 @@ pub use literal::Literal;
 pub use marks::Marks;
 pub use offer::Offer;
 pub use possibility::{possible, possible_with};
+pub use quantification::exists;
 pub use restriction::cofactor;
