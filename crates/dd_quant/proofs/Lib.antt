@@ -7,3 +7,4 @@ pub mod SweepLemmas
 pub mod RestrictLemmas
 pub mod ShortLemmas
 pub mod ExistsLemmas
+pub mod SupportLemmas

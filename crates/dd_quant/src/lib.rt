@@ -1,8 +1,9 @@
-//! Questions about the value of a handle: with a variable fixed or without some, whether
+//! Questions about the value of a handle: with a variable fixed or without some, on which variables it depends, whether
 //! something makes it true, and what it leaves open.
 #![tactic(auto)]
 
 mod choices;
+mod dependence;
 mod ends;
 mod given;
 mod literal;
@@ -16,6 +17,7 @@ mod restriction;
 mod walk;
 
 pub use choices::{offers, offers_with};
+pub use dependence::support;
 pub use literal::Literal;
 pub use marks::Marks;
 pub use offer::Offer;
