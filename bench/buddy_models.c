@@ -1,8 +1,9 @@
 /* Makes the diagram of a model's products with BuDDy, again and again, and prints the processor seconds of one round without
-   those of an empty table, and the nodes of the diagram. The status is 6 where the nodes aren't enough: a model with no
-   product is taken for that too.
+   those of an empty table, and the nodes of the diagram. Where it is asked for them, it goes on with the dead, the core and
+   the false-optional features: their processor seconds, and how many they are. The status is 6 where the nodes aren't
+   enough: a model with no product is taken for that too.
 
-       buddy_models listed|near NODES CACHE ROUNDS < NUMBERS
+       buddy_models listed|near NODES CACHE ROUNDS [analyses] < NUMBERS
 
    NUMBERS are those of bench/models.py. `listed` conjoins the groups from the last to the first, and then the rules in their
    order; `near` conjoins each rule as soon as all groups below the least feature above it are there. */
@@ -185,12 +186,51 @@ static bdd products(int near)
     return made;
 }
 
+struct found { int dead, core, kept; };
+
+/* A feature is dead where no product has it, and core where none lacks it. A member is false-optional where it isn't dead,
+   its group lets the parent leave one out, and no product with the parent lacks it. Each is one meet with a literal. */
+static struct found analyse(bdd made)
+{
+    struct found found = {0, 0, 0};
+    char *is_dead = calloc(features, 1), *is_kept = calloc(features, 1);
+
+    for (int i = 0; i < features; i++) {
+        is_dead[i] = bdd_and(made, bdd_ithvar(i)) == bddfalse;
+        found.dead += is_dead[i];
+        found.core += bdd_and(made, bdd_nithvar(i)) == bddfalse;
+    }
+    for (int g = 0; g < groups; g++) {
+        bdd with;
+        if (group[g].low >= group[g].count)
+            continue;
+        with = bdd_addref(bdd_and(made, bdd_ithvar(group[g].parent)));
+        for (int i = 0; i < group[g].count; i++) {
+            int member = group[g].members[i];
+            if (!is_dead[member] && bdd_and(with, bdd_nithvar(member)) == bddfalse)
+                is_kept[member] = 1;
+        }
+        bdd_delref(with);
+    }
+    for (int i = 0; i < features; i++)
+        found.kept += is_kept[i];
+    free(is_dead);
+    free(is_kept);
+    return found;
+}
+
+static double seconds_since(clock_t began)
+{
+    return (double)(clock() - began) / CLOCKS_PER_SEC;
+}
+
 int main(int count, char **words)
 {
-    int near, nodes = 0;
-    double seconds = 0;
+    int near, nodes = 0, with_analyses = count == 6 && !strcmp(words[5], "analyses");
+    double seconds = 0, more = 0;
+    struct found found = {0, 0, 0};
 
-    if (count != 5)
+    if (count != 5 && !with_analyses)
         return 2;
     near = !strcmp(words[1], "near");
     read_model();
@@ -209,12 +249,20 @@ int main(int count, char **words)
         bdd_setvarnum(features);
         began = clock();
         made = products(near);
-        seconds += (double)(clock() - began) / CLOCKS_PER_SEC / atoi(words[4]);
+        seconds += seconds_since(began) / atoi(words[4]);
         nodes = bdd_nodecount(made);
+        if (with_analyses) {
+            began = clock();
+            found = analyse(made);
+            more += seconds_since(began) / atoi(words[4]);
+        }
         bdd_done();
         if (!nodes)
             return 6;
     }
-    printf("%.6f %d\n", seconds, nodes);
+    printf("%.6f %d", seconds, nodes);
+    if (with_analyses)
+        printf(" %.6f %d %d %d", more, found.dead, found.core, found.kept);
+    printf("\n");
     return 0;
 }

@@ -1,4 +1,5 @@
-"""Large feature models made from a fixed seed, as the text of a UVL file and as numbers for a plain program."""
+"""Large feature models, most of them made from a fixed seed, as the text of a UVL file and as numbers for a plain program."""
+import itertools
 import random
 
 KINDS = {"mandatory": lambda k: (k, k), "optional": lambda k: (0, k), "alternative": lambda k: (1, 1), "or": lambda k: (1, k)}
@@ -66,6 +67,11 @@ def tree(random_, size, most_members, deepest):
         parent.groups.append((random_.choice(kinds), members))
         count += len(members)
         open_ += [member for member in members if member.depth < deepest]
+    return numbered(root)
+
+
+def numbered(root):
+    """The model of a tree, its features numbered in document order, without rules."""
     model = Model(root, [])
     for number, feature in enumerate(model.features()):
         feature.number = number
@@ -113,3 +119,46 @@ def models():
     yield "kernel", with_rules(random_, tree(random_, 850, 12, 6), 500, 60, lambda it: it.random() < 0.95)
     random_ = random.Random(2000)
     yield "car", with_rules(random_, tree(random_, 2000, 20, 8), 4000, 20, lambda it: it.random() < 0.7)
+
+
+def generated(size):
+    """The tree of `uvl_gen` with so many features, and its rules: every tenth feature needs the one before, and the numbers
+    of the first eight features that are chosen add up to 25 at most. The last one is told by clauses: of each smallest set
+    of features that add up to more, one isn't chosen."""
+    made, parent = [Feature(1)], 1
+    while len(made) < size:
+        kind = ("mandatory", "or", "alternative", "optional")[parent % 4]
+        above = made[parent - 1]
+        members = [Feature(above.depth + 1) for _ in range(min(4, size - len(made)))]
+        above.groups.append((kind, members))
+        made += members
+        parent += 1
+    model = numbered(made[0])
+    number = [0, *(feature.number for feature in made)]
+    model.rules = [[-number[it] - 1, number[it - 1]] for it in range(10, size + 1, 10)]
+    costs = range(1, min(size, 8) + 1)
+    for count in costs:
+        for chosen in itertools.combinations(costs, count):
+            if 25 < sum(chosen) <= 25 + min(chosen):
+                model.rules.append([-number[it] - 1 for it in chosen])
+    return model
+
+
+def chain(size):
+    """A root with optional features, each of which needs the one before."""
+    made = [Feature(1)] + [Feature(2) for _ in range(size - 1)]
+    made[0].groups.append(("optional", made[1:]))
+    model = numbered(made[0])
+    model.rules = [[-it - 1, it - 1] for it in range(2, size)]
+    return model
+
+
+def analysed():
+    """Names and models for analyses: generated ones, chains of rules, and the one like a kernel's configuration."""
+    for size in (50, 100, 200, 300, 500, 1000):
+        yield f"gen-{size}", generated(size)
+    for size in (300, 600, 1000, 2000):
+        yield f"chain-{size}", chain(size)
+    for name, model in models():
+        if name in ("line-1000-25", "kernel"):
+            yield name, model

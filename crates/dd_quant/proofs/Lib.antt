@@ -6,3 +6,5 @@ pub mod StepLemmas
 pub mod SweepLemmas
 pub mod RestrictLemmas
 pub mod ShortLemmas
+pub mod ExistsLemmas
+pub mod SupportLemmas

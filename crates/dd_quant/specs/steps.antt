@@ -4,3 +4,5 @@ pub mod Given
 pub mod Walk
 pub mod Noted
 pub mod Remembered
+pub mod Seen
+pub mod Replaced

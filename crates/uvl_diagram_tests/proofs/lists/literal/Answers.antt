@@ -3,7 +3,7 @@ use Rattle.std.proofs.Common.{◌≡◌, ℕ, ◌+◌, arith}
 use Rattle.dd_store.specs.Handles.{one_on}
 use Rattle.dd_store.specs.Table.{handles_on}
 use Rattle.dd_store.proofs.CountLemmas.{one_on-itself}
-use Rattle.uvl_diagram_tests.proofs.kernel.literal.Goals as goal
+use Rattle.uvl_diagram_tests.proofs.lists.literal.Goals as goal
 
 pub release-requires : goal.release-requires
 release-requires c =

@@ -3,7 +3,7 @@ use Rattle.std.proofs.Common.{◌≡◌, ℕ, ◌+◌, arith}
 use Rattle.dd_store.specs.Handles.{one_on}
 use Rattle.dd_store.specs.Table.{handles_on}
 use Rattle.dd_store.proofs.CountLemmas.{one_on-itself}
-use Rattle.uvl_diagram_tests.proofs.kernel.+function.Goals as goal
+use Rattle.uvl_diagram_tests.proofs.lists.+function.Goals as goal
 
 pub ite-requires-clause-a_live : goal.ite-requires-clause-a_live
 ite-requires-clause-a_live t c =
