@@ -1,9 +1,8 @@
--- What is known of the files of a set that is accepted.
-use Rattle.std.proofs.Common.{◌≡◌, ℕ, zero, suc, ◌+◌, ◌-◌, ◌≤◌, ◌⊎◌, inl, inr, List, [], ◌∷◌, ◌++◌, length, take, Option, Some, None, Bool, false, refl, sym, ap, ◌∙◌, subst, arith}
+-- What is known of the files of a set without fault.
+use Rattle.std.proofs.Common.{◌≡◌, ℕ, zero, suc, ◌+◌, ◌-◌, ◌≤◌, ◌⊎◌, inl, inr, List, [], ◌∷◌, ◌++◌, length, take, Option, Some, None, refl, sym, ap, ◌∙◌, subst, arith}
 use Rattle.std.specs.Prelude.{slice_get, IfSome}
-use Rattle.std.specs.List.{All, AllByRecursion, list_any}
+use Rattle.std.specs.List.{All, AllByRecursion}
 use Rattle.std.specs.Option.{option_map, option_or}
-use Rattle.std.proofs.lemmas.Bool.{or_parts}
 use Rattle.std.proofs.lemmas.List.{append_assoc, append-nil, length-append}
 use Rattle.std.proofs.lemmas.List.Elements.{All-from_recursion, recursion_from_All}
 use Rattle.uvl_ast.specs.declared.expression.Expr.{Expr}
@@ -27,23 +26,22 @@ use Rattle.uvl_imports.specs.Sets.{IsWritten, IsWhole}
 use Rattle.uvl_imports.specs.declared.file_set.Loaded.{Loaded}
 use Rattle.uvl_placing.specs.Files.{imports_of, placed, tree_of_file, tree_of_root, trees_behind}
 use Rattle.uvl_resolve.specs.steps.Placements.{AreReady}
-use Rattle.uvl_resolve.specs.steps.Rules.{IsPlain}
+use Rattle.uvl_resolve.specs.steps.Rules.{IsPlain, attributes_of_heads, heads_in, heads_with, names_of_heads}
 use Rattle.uvl_resolve.proofs.Good.{FineLine, IsClean, IsGood, tree_good}
+use Rattle.uvl_resolve.proofs.Heads.{heads_again, names_are, names_with}
 use Rattle.uvl_resolve.proofs.Keys.{IsTidy, neither_there, never_when, tidied}
-use Rattle.uvl_resolve.proofs.Readable.{readable}
 use Rattle.uvl_resolve.proofs.Standing.{get_before, get_behind}
 use Rattle.uvl_scope.specs.declared.scope.Scope.{Scope}
 use Rattle.uvl_scope.specs.Brought.{Placing, brought_by, brought_by_lines, placed_scope}
-use Rattle.uvl_scope.specs.Faults.{IsAccepted, brought_in, missing_features, fault_in_file, fault_of_file, scope_of, scopes_behind, scopes_of}
+use Rattle.uvl_scope.specs.Faults.{HasNoFault, brought_in, missing_features, fault_in_file, fault_of_file, scope_of, scopes_behind, scopes_of}
 use Rattle.uvl_scope.specs.Firsts.{first_along, when}
 use Rattle.uvl_scope.specs.Keys.{repeated_key}
 use Rattle.uvl_scope.specs.LineFaults.{fault_of_line, finding, has_body, has_known_name, has_too_many_rules, is_placed_again, is_too_deep, is_too_large, places_nothing}
 use Rattle.uvl_scope.specs.Lines.{Line, of_feature, of_group, lines_of}
 use Rattle.uvl_scope.specs.NumberFaults.{fault_inside}
 use Rattle.uvl_scope.specs.RuleFaults.{fault_of_rule}
-use Rattle.uvl_scope.specs.Rules.{has_numbers}
 use Rattle.uvl_scope.specs.Trees.{AreScopesOf}
-use Rattle.uvl_semantics.specs.Tree.{Tree}
+use Rattle.uvl_semantics.specs.Tree.{Tree, Head, feature, heads_of}
 
 -- ---- what is asked of each is found of none
 
@@ -73,19 +71,6 @@ each_of P Q f (x ∷ xs) h = (f x h.0, each_of P Q f xs h.1)
 none_mapped : {A B : Type 0} (f : A → B) (o : Option A) → option_map f o ≡ None → o ≡ None
 none_mapped f None h = refl
 none_mapped f (Some x) h = absurd cc
-
-any_at : {A : Type 0} (test : A → Bool) (xs : List A) (k : ℕ) (x : A) → list_any test xs ≡ false → slice_get xs k ≡ Some x → test x ≡ false
-any_at test [] k x none h = absurd cc
-any_at {A} test (y ∷ ys) zero x none h =
-    let same : y ≡ x = cc in
-    subst (λ (z : A). test z ≡ false) same (or_parts (test y) (list_any test ys) none).0
-any_at test (y ∷ ys) (suc k) x none h = any_at test ys k x (or_parts (test y) (list_any test ys) none).1 h
-
-any_none : {A : Type 0} (test : A → Bool) (xs : List A) → list_any test xs ≡ false → AllByRecursion (λ x. test x ≡ false) xs
-any_none test [] none = tt
-any_none test (x ∷ xs) none =
-    let parts = or_parts (test x) (list_any test xs) none in
-    (parts.0, any_none test xs parts.1)
 
 -- ---- scopes
 
@@ -138,6 +123,9 @@ spelled_root file root written is = record {
 
 -- ---- one file
 
+some_heads : (tree : Tree) → 1 ≤ length (heads_of tree)
+some_heads (feature head below) = omega arith
+
 -- nothing is wrong with the lines of a file
 line_clean : (placing : Placing) (front : List Line) (line : Line) → fault_of_line placing front line ≡ None → IsClean line
 line_clean placing front (of_group line) none = never_when _ _ none
@@ -159,10 +147,10 @@ pub record FileIsFine (loaded : Loaded) : Type 0 where
   pub is : loaded.file.root ≡ Some root
   pub fine : FineLine IsTidy tidied 1 root
 
-module _ (files : List Loaded) (whole : IsWhole files) (accepted : IsAccepted files) where
+module _ (files : List Loaded) (whole : IsWhole files) (none : HasNoFault files) where
   module _ (k : ℕ) (loaded : Loaded) (there : slice_get files k ≡ Some loaded) where
     none_found : fault_in_file (scopes_of (take k files)) loaded ≡ None
-    none_found = none_mapped _ (fault_in_file (scopes_of (take k files)) loaded) (along_at fault_of_file [] files k loaded accepted.no_fault there)
+    none_found = none_mapped _ (fault_in_file (scopes_of (take k files)) loaded) (along_at fault_of_file [] files k loaded none there)
 
     has_root : (root : Option Feature) → loaded.file.root ≡ root → (r : Feature) × (loaded.file.root ≡ Some r)
     has_root (Some r) e = (r, e)
@@ -196,28 +184,35 @@ module _ (files : List Loaded) (whole : IsWhole files) (accepted : IsAccepted fi
         tidy [] h n = tt
         tidy (a ∷ attributes) h n = ((h.0, n.0), tidy attributes h.1 n.1)
 
-    -- each rule is one over the names of the file
-    pub rules_plain : All (IsPlain (scope_of (scopes_of (take k files)) loaded).names) (rules_of loaded.file)
-    rules_plain =
-        let names = (scope_of (scopes_of (take k files)) loaded).names in
+    -- each rule is one over the features of the file
+    pub rules_plain : (heads : List Head) → names_of_heads heads ≡ (scope_of (scopes_of (take k files)) loaded).names
+        → attributes_of_heads heads ≡ (scope_of (scopes_of (take k files)) loaded).attributes → 1 ≤ length heads → All (IsPlain heads) (rules_of loaded.file)
+    rules_plain heads names_are lists_are some =
         let brought = brought_in (scopes_of (take k files)) loaded in
         let rules = rules_of loaded.file in
         let third = (neither_there _ _ (neither_there _ _ (neither_there _ _ none_found).1).1).0 in
-        let known = each_of (λ (rule : Expr). (f : List Expr) × (fault_of_rule brought f rule ≡ None)) (λ (rule : Expr). fault_inside names brought.attributes rule ≡ None)
+        let known = each_of (λ (rule : Expr). (f : List Expr) × (fault_of_rule brought f rule ≡ None)) (λ (rule : Expr). fault_inside brought.names brought.attributes rule ≡ None)
         (λ rule h. (neither_there _ _ (neither_there _ _ h.1).1).0) rules (each_along (fault_of_rule brought) [] rules third) in
-        let numbers = any_none has_numbers rules (any_at (λ (l : Loaded). list_any has_numbers (rules_of l.file)) files k loaded accepted.no_numbers there) in
         let written = (whole.each k loaded there).written in
         let few = recursion_from_All _ rules (file_few written.tokens loaded.file written.parsed.spelled written.parsed.unnamed) in
         let shallow = recursion_from_All _ rules (file_grouped written.tokens loaded.file written.parsed.spelled written.parsed.unnamed) in
-        All-from_recursion (IsPlain names) rules (plain names brought.attributes rules known numbers few shallow)
+        All-from_recursion (IsPlain heads) rules (plain brought.names brought.attributes names_are lists_are rules known few shallow)
       where
-        plain : (names : List (List ℕ)) (attributes : List (List Attribute)) (rules : List Expr)
-            → AllByRecursion (λ rule. fault_inside names attributes rule ≡ None) rules
-            → AllByRecursion (λ rule. has_numbers rule ≡ false) rules → AllByRecursion (λ rule. nodes_of rule ≤ most_rule_nodes) rules
-            → AllByRecursion (λ rule. right_operands rule ≤ most_right_operands) rules → AllByRecursion (IsPlain names) rules
-        plain names attributes [] k n f s = tt
-        plain names attributes (rule ∷ rules) k n f s =
-            (record { made = λ offset. readable names attributes offset rule n.0 k.0; few = f.0; shallow = s.0 }, plain names attributes rules k.1 n.1 f.1 s.1)
+        plain : (names : List (List ℕ)) (lists : List (List Attribute)) → names_of_heads heads ≡ names → attributes_of_heads heads ≡ lists → (rules : List Expr)
+            → AllByRecursion (λ rule. fault_inside names lists rule ≡ None) rules
+            → AllByRecursion (λ rule. nodes_of rule ≤ most_rule_nodes) rules
+            → AllByRecursion (λ rule. right_operands rule ≤ most_right_operands) rules → AllByRecursion (IsPlain heads) rules
+        plain names lists n l [] k f s = tt
+        plain names lists n l (rule ∷ rules) k f s = (
+          record {
+            no_fault = ap (λ (ns : List (List ℕ)). fault_inside ns (attributes_of_heads heads) rule) n
+                ∙ ap (λ (ls : List (List Attribute)). fault_inside names ls rule) l ∙ k.0;
+            some = some;
+            few = f.0;
+            shallow = s.0;
+          },
+          plain names lists n l rules k.1 f.1 s.1,
+        )
 
   -- the files with their scopes
   pub are_ready : (scopes : List Scope) → scopes ≡ scopes_of files → AreScopesOf files scopes → AreReady files scopes
@@ -227,12 +222,18 @@ module _ (files : List Loaded) (whole : IsWhole files) (accepted : IsAccepted fi
         let has = trees at scope found in
         let same : scope ≡ scope_of (scopes_of (take at files)) loaded =
         some_same (sym found ∙ ap (λ (ss : List Scope). slice_get ss at) is ∙ scope_there files at loaded there) in
+        let heads : heads_in scope ≡ heads_of has.tree =
+        ap (λ (ns : List (List ℕ)). heads_with ns scope.attributes) (has.of_tree.names ∙ names_are has.tree)
+        ∙ ap (heads_with (names_of_heads (heads_of has.tree))) has.of_tree.attributes ∙ heads_again (heads_of has.tree) in
+        let lists : attributes_of_heads (heads_in scope) ≡ scope.attributes = ap attributes_of_heads heads ∙ sym has.of_tree.attributes in
         record {
           tree = has.tree;
           placed = has.placed;
-          named = has.of_tree.names;
+          heads = heads;
           distinct = has.within.distinct;
-          plain = subst (λ (s : Scope). All (IsPlain s.names) (rules_of loaded.file)) (sym same) (rules_plain at loaded there);
+          plain = rules_plain at loaded there (heads_in scope)
+              (names_with scope.names scope.attributes ∙ ap (λ (s : Scope). s.names) same) (lists ∙ ap (λ (s : Scope). s.attributes) same)
+              (subst (λ (hs : List Head). 1 ≤ length hs) (sym heads) (some_heads has.tree));
         };
   }
     where
@@ -242,7 +243,7 @@ module _ (files : List Loaded) (whole : IsWhole files) (accepted : IsAccepted fi
 -- ---- the placed trees
 
 -- the last of a list, or another
-last_or : {A : Type 0} (xs : List A) (y : A) (k : ℕ) (x : A) → slice_get (xs ++ y ∷ []) k ≡ Some x → (slice_get xs k ≡ Some x) ⊎ (y ≡ x)
+pub last_or : {A : Type 0} (xs : List A) (y : A) (k : ℕ) (x : A) → slice_get (xs ++ y ∷ []) k ≡ Some x → (slice_get xs k ≡ Some x) ⊎ (y ≡ x)
 last_or [] y zero x h = inr cc
 last_or [] y (suc k) x h = absurd cc
 last_or (z ∷ xs) y zero x h = inl h
@@ -267,8 +268,8 @@ trees_grow trees (loaded ∷ files) good fine = trees_grow (trees ++ tree_of_fil
           | inr last ↦ imports_tree tree last
         ]
 
-pub trees_good : (files : List Loaded) → IsWhole files → IsAccepted files → TreesAreGood (placed files)
-trees_good files whole accepted = trees_grow [] files (λ at tree there. absurd (cc there)) (all_fine files (λ k loaded there. file_fine files whole accepted k loaded there))
+pub trees_good : (files : List Loaded) → IsWhole files → HasNoFault files → TreesAreGood (placed files)
+trees_good files whole none = trees_grow [] files (λ at tree there. absurd (cc there)) (all_fine files (λ k loaded there. file_fine files whole none k loaded there))
   where
     all_fine : (files : List Loaded) → ((k : ℕ) (loaded : Loaded) → slice_get files k ≡ Some loaded → FileIsFine loaded) → AllByRecursion FileIsFine files
     all_fine [] h = tt

@@ -6,7 +6,7 @@ use Rattle.std.specs.Option.{option_map, option_and_then}
 use Rattle.std.specs.Str.{bytes_eq}
 use Rattle.std.proofs.lemmas.List.{append_assoc, append-nil, map-append}
 use Rattle.std.proofs.lemmas.List.Elements.{All-from_recursion, All-head, All-tail, recursion_from_All}
-use Rattle.std.proofs.lemmas.Option.{slice_get_within, slice_get-get_or}
+use Rattle.std.proofs.lemmas.Option.{slice_get_within, slice_get-get_or, slice_get-map}
 use Rattle.uvl_ast.specs.declared.feature.Feature.{Feature, out-Feature}
 use Rattle.uvl_ast.specs.declared.feature.Feature.TheFolds.{fold_out-Feature, fold_out-Group}
 use Rattle.uvl_ast.specs.declared.feature.Group.{Group, out-Group}
@@ -21,8 +21,9 @@ use Rattle.uvl_placing.specs.Laws.{FilesAreReadAmongAll}
 use Rattle.uvl_placing.specs.Names.{dotted, front_of, qualifier_of, target_called}
 use Rattle.uvl_placing.specs.Options.{known, of_both}
 use Rattle.uvl_resolve.specs.declared.placements.Placement.{Placement}
-use Rattle.uvl_resolve.specs.steps.Placements.{AddsPlacements, AreReady, IsPlaced, IsReady, names_at, names_in, placement, placement_of}
-use Rattle.uvl_resolve.specs.steps.Rules.{Says, StandAt}
+use Rattle.uvl_resolve.specs.steps.Placements.{AddsPlacements, AreReady, IsPlaced, IsReady, heads_at, heads_there, placement, placement_of}
+use Rattle.uvl_resolve.specs.steps.Rules.{Says, SaysRules, StandAt, heads_in, names_of_heads, root_of}
+use Rattle.uvl_resolve.proofs.Heads.{names_with, root_is}
 use Rattle.uvl_resolve.proofs.Parts.{front_all, rest_all}
 use Rattle.uvl_resolve.proofs.PlacesTree.{PlacesTree, each_places}
 use Rattle.uvl_resolve.proofs.Saying.{behind_each_other, both_said, nothing_said, placed_said, stand_room}
@@ -30,7 +31,7 @@ use Rattle.uvl_resolve.proofs.Standing.{found_at}
 use Rattle.uvl_scope.specs.declared.scope.Scope.{Scope}
 use Rattle.uvl_semantics.specs.Constraint.{Constraint}
 use Rattle.uvl_semantics.specs.Prefix.{prefixed_constraint}
-use Rattle.uvl_semantics.specs.Tree.{Tree, feature, names_of, top_name}
+use Rattle.uvl_semantics.specs.Tree.{Tree, Head, feature, heads_of, top_name}
 
 some_same : {A : Type 0} {a b : A} → Some a ≡ Some b → a ≡ b
 some_same {A} {a} {b} h = cc
@@ -96,12 +97,12 @@ target_in_front qualifier (line ∷ lines) (first ∷ targets) at target all is 
         subst (λ (t : ℕ). t < at) same (All-head (λ (t : ℕ). t < at) first targets all)
     by rest false h = rest h
 
-some_names : (tree : Tree) → 1 ≤ length (names_of tree)
-some_names (feature head below) = omega arith
+some_heads : (tree : Tree) → 1 ≤ length (heads_of tree)
+some_heads (feature head below) = omega arith
 
 module _ (files : List Loaded) (scopes : List Scope) (whole : IsWhole files) (law : FilesAreReadAmongAll) (ready : AreReady files scopes) (at : ℕ) (loaded : Loaded) (scope : Scope)
     (there : slice_get files at ≡ Some loaded) (found : slice_get scopes at ≡ Some scope) where
-  pub is_ready : IsReady files at loaded scope.names
+  pub is_ready : IsReady files at loaded scope
   is_ready = ready.each at loaded scope there found
 
   pub says : tree_of_file (placed files) loaded ≡ Some is_ready.tree
@@ -109,23 +110,27 @@ module _ (files : List Loaded) (scopes : List Scope) (whole : IsWhole files) (la
 
   -- each placing line places a tree within that of the file
   each_root : (root : Option Feature) → tree_of_root (imports_of (placed files) loaded) root ≡ Some is_ready.tree
-      → AllByRecursion (PlacesTree (imports_of (placed files) loaded) (names_of is_ready.tree)) (placings_of_root root)
+      → AllByRecursion (PlacesTree (imports_of (placed files) loaded) (heads_of is_ready.tree)) (placings_of_root root)
   each_root None is = absurd cc
   each_root (Some root) is = each_places (imports_of (placed files) loaded) root is_ready.tree is
 
-  pub places : AllByRecursion (PlacesTree (imports_of (placed files) loaded) (names_of is_ready.tree)) (placings_of_root loaded.file.root)
+  pub places : AllByRecursion (PlacesTree (imports_of (placed files) loaded) (heads_of is_ready.tree)) (placings_of_root loaded.file.root)
   places = each_root loaded.file.root says
 
   -- and is found
-  found_placement : (reference : List (List ℕ)) (h : PlacesTree (imports_of (placed files) loaded) (names_of is_ready.tree) reference)
+  found_placement : (reference : List (List ℕ)) (h : PlacesTree (imports_of (placed files) loaded) (heads_of is_ready.tree) reference)
       → placement_of loaded scope.names reference ≡ Some (placement h.target h.number)
   found_placement reference h =
+      let name_there : slice_get scope.names h.number ≡ Some (dotted reference) =
+      ap (λ (ns : List (List ℕ)). slice_get ns h.number) (sym (names_with scope.names scope.attributes) ∙ ap names_of_heads is_ready.heads)
+      ∙ slice_get-map (λ (head : Head). head.name) (heads_of is_ready.tree) h.number
+      ∙ ap (option_map (λ (head : Head). head.name)) h.at ∙ ap (λ (n : List ℕ). Some n) h.named in
       let at_number : position (bytes_eq (dotted reference)) scope.names ≡ Some h.number =
-      found_at scope.names h.number (dotted reference) is_ready.distinct (ap (λ (ns : List (List ℕ)). slice_get ns h.number) is_ready.named ∙ h.named) in
+      found_at scope.names h.number (dotted reference) is_ready.distinct name_there in
       ap (λ (o : Option ℕ). of_both placement o (position (bytes_eq (dotted reference)) scope.names)) h.called
       ∙ ap (of_both placement (Some h.target)) at_number
 
-  each_placed : (references : List (List (List ℕ))) → AllByRecursion (PlacesTree (imports_of (placed files) loaded) (names_of is_ready.tree)) references
+  each_placed : (references : List (List (List ℕ))) → AllByRecursion (PlacesTree (imports_of (placed files) loaded) (heads_of is_ready.tree)) references
       → AllByRecursion (IsPlaced loaded scope.names) references
   each_placed [] h = tt
   each_placed (r ∷ rs) h = ((placement h.0.target h.0.number, found_placement r h.0), each_placed rs h.1)
@@ -136,19 +141,19 @@ module _ (files : List Loaded) (scopes : List Scope) (whole : IsWhole files) (la
   -- what is placed by a line: a file in front, whose names stand within those of the file
   pub record PlacesFile (reference : List (List ℕ)) (p : Placement) : Type 0 where
     pub in_front : p.target < at
-    pub room : p.number + length (names_at scopes p.target) ≤ length scope.names
-    pub add : (offset : ℕ) (old new : List Rule) → Says (names_at scopes p.target) (offset + p.number) old new (known (slice_get (said files) p.target))
-        → Says scope.names offset old new (constraints_placed (imports_of (placed files) loaded) (said files) reference)
+    pub room : p.number + length (heads_at scopes p.target) ≤ length (heads_in scope)
+    pub add : (offset : ℕ) (old new : List Rule) → Says (heads_at scopes p.target) (offset + p.number) old new (known (slice_get (said files) p.target))
+        → Says (heads_in scope) offset old new (constraints_placed (imports_of (placed files) loaded) (said files) reference)
 
-  pub places_file : (reference : List (List ℕ)) (p : Placement) → PlacesTree (imports_of (placed files) loaded) (names_of is_ready.tree) reference
+  pub places_file : (reference : List (List ℕ)) (p : Placement) → PlacesTree (imports_of (placed files) loaded) (heads_of is_ready.tree) reference
       → placement_of loaded scope.names reference ≡ Some p → PlacesFile reference p
   places_file reference p h is = subst (PlacesFile reference) (some_same (sym (found_placement reference h) ∙ is)) (record {
     in_front = in_front;
-    room = subst (λ (ns : List (List ℕ)). h.number + length ns ≤ length scope.names) (sym inner) room;
+    room = subst (λ (hs : List Head). h.number + length hs ≤ length (heads_in scope)) (sym inner) room;
     add = λ offset old new k.
-        subst (Says scope.names offset old new) (sym constraints)
-        (placed_said scope.names (names_of h.tree) offset h.number q old new (known (slice_get (said files) h.target)) stand room
-        (subst (λ (ns : List (List ℕ)). Says ns (offset + h.number) old new (known (slice_get (said files) h.target))) inner k));
+        subst (Says (heads_in scope) offset old new) (sym constraints)
+        (placed_said (heads_in scope) (heads_of h.tree) offset h.number q old new (known (slice_get (said files) h.target)) stand room
+        (subst (λ (hs : List Head). Says hs (offset + h.number) old new (known (slice_get (said files) h.target))) inner k));
   })
     where
       q : List ℕ
@@ -160,7 +165,7 @@ module _ (files : List Loaded) (scopes : List Scope) (whole : IsWhole files) (la
       within : h.target < length files
       within = omega (arith, in_front, slice_get_within files at loaded there)
 
-      inner : names_at scopes h.target ≡ names_of h.tree
+      inner : heads_at scopes h.target ≡ heads_of h.tree
       inner =
           let l = get_or files h.target loaded in
           let s = get_or scopes h.target scope in
@@ -168,13 +173,13 @@ module _ (files : List Loaded) (scopes : List Scope) (whole : IsWhole files) (la
           let s_there : slice_get scopes h.target ≡ Some s = slice_get-get_or scopes h.target scope (omega (arith, within, ready.count)) in
           let its = ready.each h.target l s l_there s_there in
           let same : its.tree ≡ h.tree = some_same (some_same (sym its.placed ∙ h.there)) in
-          ap names_in s_there ∙ its.named ∙ ap names_of same
+          ap heads_there s_there ∙ its.heads ∙ ap heads_of same
 
-      stand : StandAt scope.names h.number (q ++ 46 ∷ []) (names_of h.tree)
-      stand = subst (λ (ns : List (List ℕ)). StandAt ns h.number (q ++ 46 ∷ []) (names_of h.tree)) (sym is_ready.named) h.stand
+      stand : StandAt (heads_in scope) h.number (q ++ 46 ∷ []) (heads_of h.tree)
+      stand = subst (λ (hs : List Head). StandAt hs h.number (q ++ 46 ∷ []) (heads_of h.tree)) (sym is_ready.heads) h.stand
 
-      room : h.number + length (names_of h.tree) ≤ length scope.names
-      room = stand_room scope.names (names_of h.tree) h.number (q ++ 46 ∷ []) stand (some_names h.tree)
+      room : h.number + length (heads_of h.tree) ≤ length (heads_in scope)
+      room = stand_room (heads_in scope) (heads_of h.tree) h.number (q ++ 46 ∷ []) stand (some_heads h.tree)
 
       constraints : constraints_placed (imports_of (placed files) loaded) (said files) reference
           ≡ option_map (map (prefixed_constraint q)) (known (slice_get (said files) h.target))
@@ -185,10 +190,10 @@ module _ (files : List Loaded) (scopes : List Scope) (whole : IsWhole files) (la
   -- What is left to be placed, and that its rules are added to those that are there.
   pub record FilesGoOn (offset : ℕ) (start here : List Rule) (left : List Placement) : Type 0 where
     pub rest : List (List (List ℕ))
-    pub place : AllByRecursion (PlacesTree (imports_of (placed files) loaded) (names_of is_ready.tree)) rest
+    pub place : AllByRecursion (PlacesTree (imports_of (placed files) loaded) (heads_of is_ready.tree)) rest
     pub are : map (placement_of loaded scope.names) rest ≡ map (λ (p : Placement). Some p) left
-    pub add : (end : List Rule) → Says scope.names offset here end (constraints_of_placings (imports_of (placed files) loaded) (said files) rest)
-        → Says scope.names offset start end (constraints_of_placings (imports_of (placed files) loaded) (said files) (placings_of_root loaded.file.root))
+    pub add : (end : List Rule) → Says (heads_in scope) offset here end (constraints_of_placings (imports_of (placed files) loaded) (said files) rest)
+        → Says (heads_in scope) offset start end (constraints_of_placings (imports_of (placed files) loaded) (said files) (placings_of_root loaded.file.root))
 
   pub files_begin : (offset : ℕ) (start : List Rule) (placements : List Placement) → AddsPlacements loaded scope.names [] placements (placings_of_root loaded.file.root)
       → FilesGoOn offset start start placements
@@ -203,7 +208,7 @@ module _ (files : List Loaded) (scopes : List Scope) (whole : IsWhole files) (la
   pub record FirstLeft (offset : ℕ) (start here : List Rule) (p : Placement) (left : List Placement) : Type 0 where
     pub reference : List (List ℕ)
     pub file : PlacesFile reference p
-    pub go_on : (new : List Rule) → Says scope.names offset here new (constraints_placed (imports_of (placed files) loaded) (said files) reference)
+    pub go_on : (new : List Rule) → Says (heads_in scope) offset here new (constraints_placed (imports_of (placed files) loaded) (said files) reference)
         → FilesGoOn offset start new left
 
   pub files_step : (offset : ℕ) (start here : List Rule) (p : Placement) (left : List Placement) → FilesGoOn offset start here (p ∷ left) → FirstLeft offset start here p left
@@ -212,10 +217,10 @@ module _ (files : List Loaded) (scopes : List Scope) (whole : IsWhole files) (la
       added : List (List (List ℕ)) → Option (List Constraint)
       added rest = constraints_of_placings (imports_of (placed files) loaded) (said files) rest
 
-      first : (rest : List (List (List ℕ))) → AllByRecursion (PlacesTree (imports_of (placed files) loaded) (names_of is_ready.tree)) rest
+      first : (rest : List (List (List ℕ))) → AllByRecursion (PlacesTree (imports_of (placed files) loaded) (heads_of is_ready.tree)) rest
           → map (placement_of loaded scope.names) rest ≡ map (λ (p : Placement). Some p) (p ∷ left)
-          → ((end : List Rule) → Says scope.names offset here end (constraints_of_placings (imports_of (placed files) loaded) (said files) rest)
-          → Says scope.names offset start end (constraints_of_placings (imports_of (placed files) loaded) (said files) (placings_of_root loaded.file.root)))
+          → ((end : List Rule) → Says (heads_in scope) offset here end (constraints_of_placings (imports_of (placed files) loaded) (said files) rest)
+          → Says (heads_in scope) offset start end (constraints_of_placings (imports_of (placed files) loaded) (said files) (placings_of_root loaded.file.root)))
           → FirstLeft offset start here p left
       first [] place are add = absurd cc
       first (r ∷ rs) place are add =
@@ -229,36 +234,39 @@ module _ (files : List Loaded) (scopes : List Scope) (whole : IsWhole files) (la
               place = place.1;
               are = others;
               add = λ end k.
-                  add end (both_said scope.names offset here new end (constraints_placed (imports_of (placed files) loaded) (said files) r)
+                  add end (both_said (heads_in scope) offset here new end (constraints_placed (imports_of (placed files) loaded) (said files) r)
                   (constraints_of_placings (imports_of (placed files) loaded) (said files) rs) h k);
             };
           }
 
   pub files_end : (offset : ℕ) (start here : List Rule) → FilesGoOn offset start here []
-      → Says scope.names offset start here (constraints_of_placings (imports_of (placed files) loaded) (said files) (placings_of_root loaded.file.root))
+      → Says (heads_in scope) offset start here (constraints_of_placings (imports_of (placed files) loaded) (said files) (placings_of_root loaded.file.root))
   files_end offset start here go = last go.rest go.are go.add
     where
       last : (rest : List (List (List ℕ))) → map (placement_of loaded scope.names) rest ≡ []
-          → ((end : List Rule) → Says scope.names offset here end (constraints_of_placings (imports_of (placed files) loaded) (said files) rest)
-          → Says scope.names offset start end (constraints_of_placings (imports_of (placed files) loaded) (said files) (placings_of_root loaded.file.root)))
-          → Says scope.names offset start here (constraints_of_placings (imports_of (placed files) loaded) (said files) (placings_of_root loaded.file.root))
-      last [] are add = add here (nothing_said scope.names offset here)
+          → ((end : List Rule) → Says (heads_in scope) offset here end (constraints_of_placings (imports_of (placed files) loaded) (said files) rest)
+          → Says (heads_in scope) offset start end (constraints_of_placings (imports_of (placed files) loaded) (said files) (placings_of_root loaded.file.root)))
+          → Says (heads_in scope) offset start here (constraints_of_placings (imports_of (placed files) loaded) (said files) (placings_of_root loaded.file.root))
+      last [] are add = add here (nothing_said (heads_in scope) offset here)
       last (r ∷ rs) are add = absurd cc
 
   -- the rules of the file itself, and then those of what it places
   pub file_says : (offset : ℕ) (old mid new : List Rule)
-      → ((root : List ℕ) → Says scope.names offset old mid (constraints_of_rules root (rules_of loaded.file)))
-      → Says scope.names offset mid new (constraints_of_placings (imports_of (placed files) loaded) (said files) (placings_of_root loaded.file.root))
-      → Says scope.names offset old new (known (slice_get (said files) at))
+      → SaysRules (heads_in scope) offset old mid (rules_of loaded.file)
+      → Says (heads_in scope) offset mid new (constraints_of_placings (imports_of (placed files) loaded) (said files) (placings_of_root loaded.file.root))
+      → Says (heads_in scope) offset old new (known (slice_get (said files) at))
   file_says offset old mid new own placed_rules =
       let tree = is_ready.tree in
       let all : known (slice_get (said files) at)
       ≡ of_both behind_each_other (constraints_of_rules (top_name tree) (rules_of loaded.file))
       (constraints_of_placings (imports_of (placed files) loaded) (said files) (placings_of_root loaded.file.root)) =
       ap known (law files at loaded whole there).constraints ∙ ap (constraints_of_tree (placed files) (said files) loaded) says in
-      subst (Says scope.names offset old new) (sym all)
-      (both_said scope.names offset old mid new (constraints_of_rules (top_name tree) (rules_of loaded.file))
-      (constraints_of_placings (imports_of (placed files) loaded) (said files) (placings_of_root loaded.file.root)) (own (top_name tree)) placed_rules)
+      let top : root_of (heads_in scope) ≡ top_name tree = ap root_of is_ready.heads ∙ root_is tree in
+      let own_said : Says (heads_in scope) offset old mid (constraints_of_rules (top_name tree) (rules_of loaded.file)) =
+      subst (λ (root : List ℕ). Says (heads_in scope) offset old mid (constraints_of_rules root (rules_of loaded.file))) top own in
+      subst (Says (heads_in scope) offset old new) (sym all)
+      (both_said (heads_in scope) offset old mid new (constraints_of_rules (top_name tree) (rules_of loaded.file))
+      (constraints_of_placings (imports_of (placed files) loaded) (said files) (placings_of_root loaded.file.root)) own_said placed_rules)
 
 -- ---- lines and groups by their parts
 

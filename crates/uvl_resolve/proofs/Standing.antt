@@ -1,17 +1,19 @@
--- Names that stand among others.
+-- Features that stand among others.
 use Rattle.std.proofs.Common.{◌≡◌, ℕ, zero, suc, ◌+◌, ◌-◌, List, [], ◌∷◌, ◌++◌, length, map, take, Some, Bool, true, false, cond, refl, sym, ap, ◌∙◌, subst, arith}
 use Rattle.std.specs.Prelude.{slice_get, position}
 use Rattle.std.specs.Option.{option_map}
 use Rattle.std.specs.Str.{bytes_eq}
 use Rattle.std.proofs.lemmas.Bool.{false≢true, or_parts}
 use Rattle.std.proofs.lemmas.List.{append_assoc, map-append}
+use Rattle.std.proofs.lemmas.Option.{slice_get-map}
 use Rattle.std.proofs.lemmas.Slice.Eq.{bytes_eq-Decides}
 use Rattle.uvl_imports.specs.Texts.{AreDistinct, has}
 use Rattle.uvl_placing.specs.Names.{dotted, behind_dots, front_of, last_of}
+use Rattle.uvl_resolve.specs.Under.{head_under}
 use Rattle.uvl_resolve.specs.steps.Rules.{StandAt}
 use Rattle.uvl_resolve.proofs.Targets.{position_next}
-use Rattle.uvl_semantics.specs.Prefix.{prefixed, prefixed_groups, prefixed_members, prefixed_name}
-use Rattle.uvl_semantics.specs.Tree.{Tree, Groups, Members, feature, no_groups, group, no_members, member, names_of, names_of_groups, names_of_members, top_name}
+use Rattle.uvl_semantics.specs.Prefix.{prefixed, prefixed_groups, prefixed_head, prefixed_members, prefixed_name}
+use Rattle.uvl_semantics.specs.Tree.{Tree, Groups, Members, Head, feature, no_groups, group, no_members, member, heads_of, heads_of_groups, heads_of_members, top_head}
 
 -- what stands behind a list
 pub get_behind : {A : Type 0} (front rest : List A) (n k : ℕ) → n ≡ length front + k → slice_get (front ++ rest) n ≡ slice_get rest k
@@ -25,56 +27,59 @@ get_before [] rest k x h = absurd cc
 get_before (y ∷ front) rest zero x h = h
 get_before (y ∷ front) rest (suc k) x h = get_before front rest k x h
 
--- names stand among themselves
-pub stand_here : (names : List (List ℕ)) → StandAt names 0 [] names
-stand_here names k name h = ap (slice_get names) (omega arith) ∙ h
+-- features stand among themselves
+pub stand_here : (heads : List Head) → StandAt heads 0 [] heads
+stand_here heads k head h = ap (slice_get heads) (omega arith) ∙ h
 
-pub stand_behind : (front all : List (List ℕ)) (n : ℕ) (text : List ℕ) (names : List (List ℕ)) → StandAt all n text names → StandAt (front ++ all) (length front + n) text names
-stand_behind front all n text names stand k name h = get_behind front all ((length front + n) + k) (n + k) (omega arith) ∙ stand k name h
+pub stand_behind : (front all : List Head) (n : ℕ) (text : List ℕ) (heads : List Head) → StandAt all n text heads → StandAt (front ++ all) (length front + n) text heads
+stand_behind front all n text heads stand k head h = get_behind front all ((length front + n) + k) (n + k) (omega arith) ∙ stand k head h
 
-pub stand_before : (all rest : List (List ℕ)) (n : ℕ) (text : List ℕ) (names : List (List ℕ)) → StandAt all n text names → StandAt (all ++ rest) n text names
-stand_before all rest n text names stand k name h = get_before all rest (n + k) (text ++ name) (stand k name h)
+pub stand_before : (all rest : List Head) (n : ℕ) (text : List ℕ) (heads : List Head) → StandAt all n text heads → StandAt (all ++ rest) n text heads
+stand_before all rest n text heads stand k head h = get_before all rest (n + k) (head_under text head) (stand k head h)
 
--- names that stand among names that stand among others
-pub stand_within : (all names inner : List (List ℕ)) (offset number : ℕ) (text more : List ℕ) → StandAt all offset text names → StandAt names number more inner
+-- a feature with two texts in front
+under_both : (text more : List ℕ) (head : Head) → head_under text (head_under more head) ≡ head_under (text ++ more) head
+under_both text more head = λ i. record { name = sym (append_assoc text more head.name) i; attributes = head.attributes }
+
+-- features that stand among features that stand among others
+pub stand_within : (all heads inner : List Head) (offset number : ℕ) (text more : List ℕ) → StandAt all offset text heads → StandAt heads number more inner
     → StandAt all (offset + number) (text ++ more) inner
-stand_within all names inner offset number text more outer stand k name h =
+stand_within all heads inner offset number text more outer stand k head h =
     let n : (offset + number) + k ≡ offset + (number + k) = omega arith in
-    ap (slice_get all) n ∙ outer (number + k) (more ++ name) (stand k name h)
-    ∙ ap (λ (t : List ℕ). Some t) (sym (append_assoc text more name))
+    ap (slice_get all) n ∙ outer (number + k) (head_under more head) (stand k head h)
+    ∙ ap (λ (t : Head). Some t) (under_both text more head)
 
--- names under a qualifier
-pub stand_under : (qualifier : List ℕ) (names : List (List ℕ)) → StandAt (map (prefixed_name qualifier) names) 0 (qualifier ++ 46 ∷ []) names
-stand_under qualifier names k name h = ap (slice_get (map (prefixed_name qualifier) names)) (omega arith) ∙ at names k h
-  where
-    at : (names : List (List ℕ)) (k : ℕ) → slice_get names k ≡ Some name → slice_get (map (prefixed_name qualifier) names) k ≡ Some ((qualifier ++ 46 ∷ []) ++ name)
-    at [] k h = absurd cc
-    at (x ∷ names) zero h =
-        let same : x ≡ name = cc in
-        ap (λ (n : List ℕ). Some (prefixed_name qualifier n)) same ∙ ap (λ (t : List ℕ). Some t) (sym (append_assoc qualifier (46 ∷ []) name))
-    at (x ∷ names) (suc k) h = at names k h
+-- a feature under a qualifier
+under_qualifier : (qualifier : List ℕ) (head : Head) → prefixed_head qualifier head ≡ head_under (qualifier ++ 46 ∷ []) head
+under_qualifier qualifier head = λ i. record { name = sym (append_assoc qualifier (46 ∷ []) head.name) i; attributes = head.attributes }
 
--- the names of a tree under a qualifier
+-- features under a qualifier
+pub stand_under : (qualifier : List ℕ) (heads : List Head) → StandAt (map (prefixed_head qualifier) heads) 0 (qualifier ++ 46 ∷ []) heads
+stand_under qualifier heads k head h =
+    ap (slice_get (map (prefixed_head qualifier) heads)) (omega arith) ∙ slice_get-map (prefixed_head qualifier) heads k
+    ∙ ap (option_map (prefixed_head qualifier)) h ∙ ap (λ (t : Head). Some t) (under_qualifier qualifier head)
+
+-- the features of a tree under a qualifier
 mutual
-  pub names_prefixed : (qualifier : List ℕ) (tree : Tree) → names_of (prefixed qualifier tree) ≡ map (prefixed_name qualifier) (names_of tree)
-  names_prefixed qualifier (feature head below) = ap (λ (ns : List (List ℕ)). prefixed_name qualifier head.name ∷ ns) (groups_prefixed qualifier below)
+  pub heads_prefixed : (qualifier : List ℕ) (tree : Tree) → heads_of (prefixed qualifier tree) ≡ map (prefixed_head qualifier) (heads_of tree)
+  heads_prefixed qualifier (feature head below) = ap (λ (hs : List Head). prefixed_head qualifier head ∷ hs) (groups_prefixed qualifier below)
 
-  groups_prefixed : (qualifier : List ℕ) (below : Groups) → names_of_groups (prefixed_groups qualifier below) ≡ map (prefixed_name qualifier) (names_of_groups below)
+  groups_prefixed : (qualifier : List ℕ) (below : Groups) → heads_of_groups (prefixed_groups qualifier below) ≡ map (prefixed_head qualifier) (heads_of_groups below)
   groups_prefixed qualifier no_groups = refl
   groups_prefixed qualifier (group lo hi members others) =
-      ap (λ (ns : List (List ℕ)). ns ++ names_of_groups (prefixed_groups qualifier others)) (members_prefixed qualifier members)
-      ∙ ap (λ (ns : List (List ℕ)). map (prefixed_name qualifier) (names_of_members members) ++ ns) (groups_prefixed qualifier others)
-      ∙ sym (map-append (prefixed_name qualifier) (names_of_members members) (names_of_groups others))
+      ap (λ (hs : List Head). hs ++ heads_of_groups (prefixed_groups qualifier others)) (members_prefixed qualifier members)
+      ∙ ap (λ (hs : List Head). map (prefixed_head qualifier) (heads_of_members members) ++ hs) (groups_prefixed qualifier others)
+      ∙ sym (map-append (prefixed_head qualifier) (heads_of_members members) (heads_of_groups others))
 
-  members_prefixed : (qualifier : List ℕ) (members : Members) → names_of_members (prefixed_members qualifier members) ≡ map (prefixed_name qualifier) (names_of_members members)
+  members_prefixed : (qualifier : List ℕ) (members : Members) → heads_of_members (prefixed_members qualifier members) ≡ map (prefixed_head qualifier) (heads_of_members members)
   members_prefixed qualifier no_members = refl
   members_prefixed qualifier (member tree others) =
-      ap (λ (ns : List (List ℕ)). ns ++ names_of_members (prefixed_members qualifier others)) (names_prefixed qualifier tree)
-      ∙ ap (λ (ns : List (List ℕ)). map (prefixed_name qualifier) (names_of tree) ++ ns) (members_prefixed qualifier others)
-      ∙ sym (map-append (prefixed_name qualifier) (names_of tree) (names_of_members others))
+      ap (λ (hs : List Head). hs ++ heads_of_members (prefixed_members qualifier others)) (heads_prefixed qualifier tree)
+      ∙ ap (λ (hs : List Head). map (prefixed_head qualifier) (heads_of tree) ++ hs) (members_prefixed qualifier others)
+      ∙ sym (map-append (prefixed_head qualifier) (heads_of tree) (heads_of_members others))
 
--- the first name is that of the top
-pub top_first : (tree : Tree) → slice_get (names_of tree) 0 ≡ Some (top_name tree)
+-- the first feature is the top
+pub top_first : (tree : Tree) → slice_get (heads_of tree) 0 ≡ Some (top_head tree)
 top_first (feature head below) = refl
 
 -- all names but the last, and the last behind a dot

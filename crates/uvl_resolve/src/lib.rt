@@ -7,6 +7,7 @@ mod fault;
 mod features;
 mod laws;
 mod name;
+mod number;
 mod placements;
 mod qualifiers;
 mod resolving;

@@ -1,12 +1,12 @@
 //! From a set of files to the model that it says.
-ghost use Rattle.std.specs.Prelude.{◌≡◌, ◌≤◌, map, length, IfOk, IfErr};
+ghost use Rattle.std.specs.Prelude.{◌≡◌, ◌≤◌, false, map, length, IfOk, IfErr};
 ghost use Rattle.uvl_base.specs.Limits.{most_features};
 ghost use Rattle.uvl_imports.specs.Sets.{IsWhole};
 ghost use Rattle.uvl_imports.specs.Texts.{AreDistinct};
 ghost use Rattle.uvl_model.specs.Comparisons.{HaveNoComparison};
 ghost use Rattle.uvl_resolve.specs.Faults.{IsCauseOf};
 ghost use Rattle.uvl_resolve.specs.Flat.{Flat};
-ghost use Rattle.uvl_scope.specs.Faults.{IsAccepted, scopes_of};
+ghost use Rattle.uvl_scope.specs.Faults.{HasNoFault, IsAccepted, have_numbers, scopes_of};
 ghost use Rattle.uvl_scope.specs.Trees.{AreScopesOf};
 
 use crate::fault::ResolveFault;
@@ -16,7 +16,7 @@ use crate::rules::RuleBuilder;
 use std::alloc::Global;
 use uvl_base::OutOfMemory;
 use uvl_imports::{FileSet, Loaded};
-use uvl_model::{FeatureRow, Model, NameIndex, rows_give_names, small_rules_may_be};
+use uvl_model::{FeatureRow, Model, NameIndex, rows_give_names};
 use uvl_scope::{Scope, check};
 
 /// The model that a set of files says: the placed tree of its main file, as rows in document order, with
@@ -33,18 +33,17 @@ pub fn resolve(alloc: Global, files: &FileSet) -> Result<Model, ResolveFault>
     Ok(model)
 }
 
-/// The model of files that are accepted, whose scopes these are.
+/// The model of files with which nothing is wrong, whose scopes these are.
 fn model_of(alloc: Global, files: &[Loaded], scopes: &[Scope<'_>]) -> Result<Model, OutOfMemory>
     requires whole { IsWhole files.now }
-    requires accepted { IsAccepted files.now }
+    requires no_fault { HasNoFault files.now }
     requires scopes { scopes.now ≡ scopes_of files.now }
     requires trees { AreScopesOf files.now scopes.now }
     ensures flat { IfOk result (Flat files.now) }
-    ensures boolean { IfOk result HaveNoComparison }
+    ensures boolean { IfOk result (λ model. have_numbers files.now ≡ false → HaveNoComparison model) }
 {
     // Laws, which are facts for the proof.
     rows_give_names();
-    small_rules_may_be();
     let qualifiers = qualifiers_of(alloc, files)?;
     let rows = rows_of(alloc, files, &qualifiers)?;
     let mut rules = RuleBuilder::new(alloc);

@@ -2,13 +2,14 @@
 ghost use Rattle.std.specs.Prelude.{◌≡◌, ◌+◌, ◌≤◌, length, Some, IfOk};
 ghost use Rattle.uvl_base.specs.Limits.{most_features};
 ghost use Rattle.uvl_placing.specs.Names.{dotted};
-ghost use Rattle.uvl_resolve.specs.steps.Rules.{feature_called, joined_by, made_of, within, IsMade, IsSingle};
+ghost use Rattle.uvl_resolve.specs.steps.Rules.{compared, comparison_by, feature_called, joined_by, made_of, number_of, within, IsMade, IsSingle};
 
+use crate::number::number_of;
 use sqlite_items::Boxed;
 use std::alloc::Global;
 use uvl_ast::{BinOp, Expr, Ref};
 use uvl_base::OutOfMemory;
-use uvl_model::{FeatureNo, Rule};
+use uvl_model::{Cmp, FeatureNo, Rule};
 use uvl_scope::{NameIndex, push_dotted};
 
 /// An operator with its right operand, whose left operand is still to be made.
@@ -35,6 +36,10 @@ pub(crate) fn rule_of(
     let mut pending = Vec::new(alloc);
     let mut current = rule;
     while let Expr::Binary(operator, left, right, _) = current {
+        if let Some(how) = comparison_by(*operator) {
+            let made = compared(alloc, how, left.get(), right.get(), names, offset)?;
+            return all_joined(alloc, made, pending);
+        }
         let right = rule_of(alloc, right.get(), names, offset)?;
         pending.push(Pending {
             operator: *operator,
@@ -68,6 +73,42 @@ fn operand_of(
         Expr::Binary(_, _, _, _) => unreachable!(),
         Expr::Number(_, _) | Expr::Sum(_, _) => unreachable!(),
     }
+}
+
+/// How an operator compares numbers, where it does.
+fn comparison_by(operator: BinOp) -> Option<Cmp>
+    ensures { result ≡ comparison_by operator }
+{
+    match operator {
+        BinOp::Equal => Some(Cmp::Equal),
+        BinOp::Differs => Some(Cmp::Differs),
+        BinOp::Less => Some(Cmp::Less),
+        BinOp::AtMost => Some(Cmp::AtMost),
+        BinOp::Greater => Some(Cmp::Greater),
+        BinOp::AtLeast => Some(Cmp::AtLeast),
+        _ => None,
+    }
+}
+
+/// The comparison of the numbers that two expressions are.
+fn compared(
+    alloc: Global,
+    how: Cmp,
+    left: &Expr,
+    right: &Expr,
+    names: &NameIndex,
+    offset: usize,
+) -> Result<Rule, OutOfMemory>
+    requires few { offset + length names.now ≤ most_features }
+    requires left { IsMade (number_of names.now offset left.now) }
+    requires right { IsMade (number_of names.now offset right.now) }
+    ensures { IfOk result (λ made. compared how (number_of names.now offset left.now)
+        (number_of names.now offset right.now) ≡ Some made) }
+{
+    let left = number_of(alloc, left, names, offset)?;
+    let right = number_of(alloc, right, names, offset)?;
+    let left = Boxed::new(alloc, left)?;
+    Ok(Rule::Compare(how, left, Boxed::new(alloc, right)?))
 }
 
 /// The rule that a feature is selected.

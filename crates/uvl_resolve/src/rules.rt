@@ -1,14 +1,13 @@
 //! The rules of a model while they grow: of each placed file its own, and then those of what it places.
-ghost use Rattle.std.specs.Prelude.{◌≡◌, ◌+◌, ◌≤◌, ◌<◌, ℕ, List, [], map, length, slice_get, OnOk};
+ghost use Rattle.std.specs.Prelude.{◌≡◌, ◌+◌, ◌≤◌, ◌<◌, [], map, length, slice_get, OnOk};
 ghost use Rattle.std.specs.List.{All, flat_map};
 ghost use Rattle.uvl_ast.specs.Rules.{all_rules, all_rules_of_group, all_rules_of_root, rules_of};
 ghost use Rattle.uvl_base.specs.Limits.{most_features};
 ghost use Rattle.uvl_imports.specs.Sets.{IsWhole};
-ghost use Rattle.uvl_placing.specs.Constraints.{constraints_of_rules};
 ghost use Rattle.uvl_placing.specs.Files.{said};
 ghost use Rattle.uvl_placing.specs.Options.{known};
-ghost use Rattle.uvl_resolve.specs.steps.Placements.{AreReady, names_at};
-ghost use Rattle.uvl_resolve.specs.steps.Rules.{IsPlain, Says};
+ghost use Rattle.uvl_resolve.specs.steps.Placements.{AreReady, heads_at};
+ghost use Rattle.uvl_resolve.specs.steps.Rules.{IsPlain, Says, SaysRules, heads_in};
 ghost use Rattle.uvl_resolve.specs.steps.Walk.{qualifiers_of};
 
 use crate::placements::placements_of;
@@ -55,15 +54,15 @@ impl RuleBuilder {
         requires ready { AreReady files.now scopes.now }
         requires known { qualifiers.now ≡ qualifiers_of files.now }
         requires there { at < length files.now }
-        requires few { offset + length (names_at scopes.now at) ≤ most_features }
-        ensures { OnOk result (Says (names_at scopes.now at) offset self.old.rules self.new.rules
+        requires few { offset + length (heads_at scopes.now at) ≤ most_features }
+        ensures { OnOk result (Says (heads_at scopes.now at) offset self.old.rules self.new.rules
             (known (slice_get (said files.now) at))) }
     {
         // A law, which is a fact for the proof.
         files_are_read_in_order();
         let loaded = &files[at];
         let scope = &scopes[at];
-        self.add_own(&loaded.file, &scope.names, offset)?;
+        self.add_own(&loaded.file, scope, offset)?;
         let placements = placements_of(self.alloc, loaded, &qualifiers[at], &scope.names)?;
         for placement in &placements {
             let number = offset + placement.number;
@@ -73,30 +72,30 @@ impl RuleBuilder {
     }
 
     /// Adds the rules of a file alone: those in braces, and then the lines of `constraints`.
-    fn add_own(&mut self, file: &File, names: &NameIndex, offset: usize) -> Result<(), OutOfMemory>
-        requires few { offset + length names.now ≤ most_features }
-        requires plain { All (IsPlain names.now) (rules_of file.now) }
-        ensures { OnOk result ((root : List ℕ) →
-            Says names.now offset self.old.rules self.new.rules (constraints_of_rules root (rules_of file.now))) }
+    fn add_own(&mut self, file: &File, scope: &Scope<'_>, offset: usize) -> Result<(), OutOfMemory>
+        requires few { offset + length scope.now.names ≤ most_features }
+        requires plain { All (IsPlain (heads_in scope.now)) (rules_of file.now) }
+        ensures { OnOk result (SaysRules (heads_in scope.now) offset self.old.rules self.new.rules
+            (rules_of file.now)) }
     {
-        self.add_braces(file, names, offset)?;
-        self.add_rules(file.rules.as_slice(), names, offset)
+        self.add_braces(file, scope, offset)?;
+        self.add_rules(file.rules.as_slice(), scope, offset)
     }
 
     /// Adds the rules in braces of a file.
     fn add_braces(
         &mut self,
         file: &File,
-        names: &NameIndex,
+        scope: &Scope<'_>,
         offset: usize,
     ) -> Result<(), OutOfMemory>
-        requires few { offset + length names.now ≤ most_features }
-        requires plain { All (IsPlain names.now) (all_rules_of_root file.now.root) }
-        ensures { OnOk result ((root : List ℕ) → Says names.now offset self.old.rules self.new.rules
-            (constraints_of_rules root (all_rules_of_root file.now.root))) }
+        requires few { offset + length scope.now.names ≤ most_features }
+        requires plain { All (IsPlain (heads_in scope.now)) (all_rules_of_root file.now.root) }
+        ensures { OnOk result (SaysRules (heads_in scope.now) offset self.old.rules self.new.rules
+            (all_rules_of_root file.now.root)) }
     {
         match &file.root {
-            Some(root) => self.add_rules_of(root, names, offset),
+            Some(root) => self.add_rules_of(root, scope, offset),
             None => Ok(()),
         }
     }
@@ -105,16 +104,16 @@ impl RuleBuilder {
     fn add_rules(
         &mut self,
         rules: &[Expr],
-        names: &NameIndex,
+        scope: &Scope<'_>,
         offset: usize,
     ) -> Result<(), OutOfMemory>
-        requires few { offset + length names.now ≤ most_features }
-        requires plain { All (IsPlain names.now) rules.now }
-        ensures { OnOk result ((root : List ℕ) →
-            Says names.now offset self.old.rules self.new.rules (constraints_of_rules root rules.now)) }
+        requires few { offset + length scope.now.names ≤ most_features }
+        requires plain { All (IsPlain (heads_in scope.now)) rules.now }
+        ensures { OnOk result (SaysRules (heads_in scope.now) offset self.old.rules self.new.rules
+            rules.now) }
     {
         for rule in rules {
-            let made = rule_of(self.alloc, rule, names, offset)?;
+            let made = rule_of(self.alloc, rule, &scope.names, offset)?;
             self.rules.push(made)?;
         }
         Ok(())
@@ -125,16 +124,16 @@ impl RuleBuilder {
     fn add_rules_of(
         &mut self,
         line: &Feature,
-        names: &NameIndex,
+        scope: &Scope<'_>,
         offset: usize,
     ) -> Result<(), OutOfMemory>
-        requires few { offset + length names.now ≤ most_features }
-        requires plain { All (IsPlain names.now) (all_rules line.now) }
-        ensures { OnOk result ((root : List ℕ) →
-            Says names.now offset self.old.rules self.new.rules (constraints_of_rules root (all_rules line.now))) }
+        requires few { offset + length scope.now.names ≤ most_features }
+        requires plain { All (IsPlain (heads_in scope.now)) (all_rules line.now) }
+        ensures { OnOk result (SaysRules (heads_in scope.now) offset self.old.rules self.new.rules
+            (all_rules line.now)) }
     {
-        self.add_rules(line.rules.as_slice(), names, offset)?;
-        self.add_rules_of_groups(line.groups.as_slice(), names, offset)
+        self.add_rules(line.rules.as_slice(), scope, offset)?;
+        self.add_rules_of_groups(line.groups.as_slice(), scope, offset)
     }
 
     /// Adds the rules in braces of all below groups.
@@ -142,16 +141,16 @@ impl RuleBuilder {
     fn add_rules_of_groups(
         &mut self,
         groups: &[Group],
-        names: &NameIndex,
+        scope: &Scope<'_>,
         offset: usize,
     ) -> Result<(), OutOfMemory>
-        requires few { offset + length names.now ≤ most_features }
-        requires plain { All (IsPlain names.now) (flat_map (λ rules. rules) (map all_rules_of_group groups.now)) }
-        ensures { OnOk result ((root : List ℕ) → Says names.now offset self.old.rules self.new.rules
-            (constraints_of_rules root (flat_map (λ rules. rules) (map all_rules_of_group groups.now)))) }
+        requires few { offset + length scope.now.names ≤ most_features }
+        requires plain { All (IsPlain (heads_in scope.now)) (flat_map (λ rules. rules) (map all_rules_of_group groups.now)) }
+        ensures { OnOk result (SaysRules (heads_in scope.now) offset self.old.rules self.new.rules
+            (flat_map (λ rules. rules) (map all_rules_of_group groups.now))) }
     {
         for group in groups {
-            self.add_rules_of_members(group.members.as_slice(), names, offset)?;
+            self.add_rules_of_members(group.members.as_slice(), scope, offset)?;
         }
         Ok(())
     }
@@ -161,16 +160,16 @@ impl RuleBuilder {
     fn add_rules_of_members(
         &mut self,
         members: &[Feature],
-        names: &NameIndex,
+        scope: &Scope<'_>,
         offset: usize,
     ) -> Result<(), OutOfMemory>
-        requires few { offset + length names.now ≤ most_features }
-        requires plain { All (IsPlain names.now) (flat_map (λ rules. rules) (map all_rules members.now)) }
-        ensures { OnOk result ((root : List ℕ) → Says names.now offset self.old.rules self.new.rules
-            (constraints_of_rules root (flat_map (λ rules. rules) (map all_rules members.now)))) }
+        requires few { offset + length scope.now.names ≤ most_features }
+        requires plain { All (IsPlain (heads_in scope.now)) (flat_map (λ rules. rules) (map all_rules members.now)) }
+        ensures { OnOk result (SaysRules (heads_in scope.now) offset self.old.rules self.new.rules
+            (flat_map (λ rules. rules) (map all_rules members.now))) }
     {
         for member in members {
-            self.add_rules_of(member, names, offset)?;
+            self.add_rules_of(member, scope, offset)?;
         }
         Ok(())
     }

@@ -9,6 +9,7 @@ use Rattle.std.proofs.lemmas.List.{length-map, append-nil}
 use Rattle.std.proofs.lemmas.List.Elements.{All-nil, All-cons, All-head, All-tail}
 use Rattle.uvl_ast.specs.Depth.{greatest, feature_depth, group_depth, depth_of_group}
 use Rattle.uvl_ast.specs.Depth.{depth_of as written_depth}
+use Rattle.uvl_ast.specs.declared.feature.Attribute.{Attribute}
 use Rattle.uvl_ast.specs.declared.feature.Feature.{Feature, out-Feature}
 use Rattle.uvl_ast.specs.declared.feature.Feature.TheFolds.{fold_out-Feature, fold_out-Group}
 use Rattle.uvl_ast.specs.declared.feature.Group.{Group, out-Group}
@@ -23,11 +24,11 @@ use Rattle.uvl_scope.specs.LineFaults.{has_more}
 use Rattle.uvl_scope.specs.Lines.{Line, of_feature, line_of, lines_from, lines_below}
 use Rattle.uvl_scope.proofs.NoFault.{PlacesOne, IsPlaced, fails_second}
 use Rattle.uvl_scope.proofs.Placements.{AllFit, scope_places}
-use Rattle.uvl_scope.proofs.Prefixing.{names-prefixed, depth-prefixed}
+use Rattle.uvl_scope.proofs.Prefixing.{attributes_both, attributes-prefixed, names-prefixed, depth-prefixed}
 use Rattle.uvl_scope.proofs.Together.{brought-append}
 use Rattle.uvl_scope.proofs.WalkLines.{lines_of_groups, lines_of_members, group_line, lines_at, lines_in}
 use Rattle.uvl_semantics.specs.Prefix.{prefixed_name, prefixed}
-use Rattle.uvl_semantics.specs.Tree.{Tree, Groups, Members, feature, no_groups, group, no_members, member, names_of, names_of_groups, names_of_members, depth_of, depth_of_groups, depth_of_members}
+use Rattle.uvl_semantics.specs.Tree.{Tree, Groups, Members, Head, feature, no_groups, group, no_members, member, heads_of, heads_of_groups, heads_of_members, names_of, names_of_groups, names_of_members, depth_of, depth_of_groups, depth_of_members}
 
 -- of each of the front, and of each of the rest
 front_all : {X : Type 0} (P : X → Type 0) (xs ys : List X) → All P (xs ++ ys) → All P xs
@@ -59,11 +60,16 @@ group_at imports written =
     ∙ ap (λ (n : ℕ). option_map (branch_of (out-Group written).kind n) (members_of (map (tree_of_line imports) (out-Group written).members)))
     (length-map (out-Group written).members (tree_of_line imports))
 
--- a line one deeper than this has a tree, of which it brings the names and the depth
+-- what stands at features
+abbrev attributes_at : List Head → List (List Attribute)
+attributes_at heads = map (λ head. head.attributes) heads
+
+-- a line one deeper than this has a tree, of which it brings the names, the attributes and the depth
 pub record LineFits (placing : Placing) (imports : Imports) (line : Feature) (above : ℕ) : Type 0 where
   pub tree : Tree
   pub is : tree_of_line imports line ≡ Some tree
   pub names : (brought_by_lines placing (lines_from line (above + 1))).names ≡ names_of tree
+  pub attributes : (brought_by_lines placing (lines_from line (above + 1))).attributes ≡ attributes_at (heads_of tree)
   pub depth : (brought_by_lines placing (lines_from line (above + 1))).depth ≡ above + depth_of tree
 
 -- so have the members of a group
@@ -71,6 +77,7 @@ record MembersFit (placing : Placing) (imports : Imports) (written : List Featur
   trees : Members
   are : members_of (map (tree_of_line imports) written) ≡ Some trees
   names : (brought_by_lines placing (lines_of_members (above + 1) written)).names ≡ names_of_members trees
+  attributes : (brought_by_lines placing (lines_of_members (above + 1) written)).attributes ≡ attributes_at (heads_of_members trees)
   depth : max above (brought_by_lines placing (lines_of_members (above + 1) written)).depth ≡ above + depth_of_members trees
 
 -- and the groups of a feature at this depth
@@ -78,6 +85,7 @@ record GroupsFit (placing : Placing) (imports : Imports) (written : List Group) 
   below : Groups
   are : groups_of (map (branch_of_written imports) written) ≡ Some below
   names : (brought_by_lines placing (lines_of_groups above written)).names ≡ names_of_groups below
+  attributes : (brought_by_lines placing (lines_of_groups above written)).attributes ≡ attributes_at (heads_of_groups below)
   depth : max above (brought_by_lines placing (lines_of_groups above written)).depth ≡ above + depth_of_groups below
 
 module _ (trees : List (Option Tree)) (scopes : List Scope) (loaded : Loaded) (fit : AllFit trees scopes) where
@@ -93,7 +101,7 @@ module _ (trees : List (Option Tree)) (scopes : List Scope) (loaded : Loaded) (f
 
   members_fit : (n : ℕ) → Fit n → (written : List Feature) (above : ℕ) → greatest (map written_depth written) ≤ n
       → All (IsPlaced placing) (lines_of_members (above + 1) written) → MembersFit placing imports written above
-  members_fit n each [] above few all = record { trees = no_members; are = refl; names = refl; depth = omega arith }
+  members_fit n each [] above few all = record { trees = no_members; are = refl; names = refl; attributes = refl; depth = omega arith }
   members_fit n each (line ∷ written) above few all =
       let front = lines_from line (above + 1) in
       let rest = lines_of_members (above + 1) written in
@@ -108,12 +116,15 @@ module _ (trees : List (Option Tree)) (scopes : List Scope) (loaded : Loaded) (f
             ∙ ap (λ (ms : Option Members). of_both (λ tree others. member tree others) (Some first.tree) ms) others.are;
         names = ap (λ (b : Brought). b.names) whole ∙ ap (λ (ns : List (List ℕ)). ns ++ (brought_by_lines placing rest).names) first.names
             ∙ ap (λ (ns : List (List ℕ)). names_of first.tree ++ ns) others.names;
+        attributes = ap (λ (b : Brought). b.attributes) whole
+            ∙ attributes_both (heads_of first.tree) (heads_of_members others.trees) (brought_by_lines placing front).attributes (brought_by_lines placing rest).attributes
+            first.attributes others.attributes;
         depth = ap (λ (b : Brought). max above b.depth) whole ∙ deep;
       }
 
   groups_fit : (n : ℕ) → Fit n → (written : List Group) (above : ℕ) → greatest (map depth_of_group written) ≤ n
       → All (IsPlaced placing) (lines_of_groups above written) → GroupsFit placing imports written above
-  groups_fit n each [] above few all = record { below = no_groups; are = refl; names = refl; depth = omega arith }
+  groups_fit n each [] above few all = record { below = no_groups; are = refl; names = refl; attributes = refl; depth = omega arith }
   groups_fit n each (one ∷ written) above few all =
       let members = (out-Group one).members in
       let front = lines_below one above in
@@ -136,6 +147,9 @@ module _ (trees : List (Option Tree)) (scopes : List Scope) (loaded : Loaded) (f
             ∙ ap (λ (gs : Option Groups). of_both (λ one others. group one.lo one.hi one.members others) (Some made) gs) others.are;
         names = ap (λ (b : Brought). b.names) whole ∙ ap (λ (ns : List (List ℕ)). ns ++ (brought_by_lines placing rest).names) first.names
             ∙ ap (λ (ns : List (List ℕ)). names_of_members first.trees ++ ns) others.names;
+        attributes = ap (λ (b : Brought). b.attributes) whole
+            ∙ attributes_both (heads_of_members first.trees) (heads_of_groups others.below) (brought_by_lines placing inner).attributes (brought_by_lines placing rest).attributes
+            first.attributes others.attributes;
         depth = ap (λ (b : Brought). max above b.depth) whole ∙ deep;
       }
 
@@ -154,6 +168,7 @@ module _ (trees : List (Option Tree)) (scopes : List Scope) (loaded : Loaded) (f
             ∙ ap (λ (ps : List (List ℕ)). tree_of_names imports ps (out-Feature line).attributes (groups_of (map (branch_of_written imports) (out-Feature line).groups))) is
             ∙ ap (tree_of_names imports (name ∷ []) (out-Feature line).attributes) groups.are;
         names = ap (λ (b : Brought). b.names) brought ∙ ap (λ (ns : List (List ℕ)). name ∷ ns) groups.names;
+        attributes = ap (λ (b : Brought). b.attributes) brought ∙ ap (λ (lists : List (List Attribute)). (out-Feature line).attributes ∷ lists) groups.attributes;
         depth = ap (λ (b : Brought). b.depth) brought ∙ deep;
       }
 
@@ -186,6 +201,8 @@ module _ (trees : List (Option Tree)) (scopes : List Scope) (loaded : Loaded) (f
             ∙ here.is;
         names = ap (λ (b : Brought). b.names) brought ∙ append-nil (map (prefixed_name qualifier) scope.names)
             ∙ ap (map (prefixed_name qualifier)) here.of_tree.names ∙ sym (names-prefixed qualifier here.tree);
+        attributes = ap (λ (b : Brought). b.attributes) brought ∙ append-nil scope.attributes ∙ here.of_tree.attributes
+            ∙ sym (attributes-prefixed qualifier here.tree);
         depth = ap (λ (b : Brought). b.depth) brought ∙ deep;
       }
 

@@ -1,8 +1,20 @@
 -- Trees under a qualifier.
 use Rattle.std.proofs.Common.{◌≡◌, ℕ, ◌+◌, max, List, ◌∷◌, ◌++◌, map, refl, sym, ap, ◌∙◌}
 use Rattle.std.proofs.lemmas.List.{map-append}
+use Rattle.uvl_ast.specs.declared.feature.Attribute.{Attribute}
 use Rattle.uvl_semantics.specs.Prefix.{prefixed_name, prefixed, prefixed_groups, prefixed_members}
-use Rattle.uvl_semantics.specs.Tree.{Tree, Groups, Members, feature, no_groups, group, no_members, member, names_of, names_of_groups, names_of_members, depth_of, depth_of_groups, depth_of_members}
+use Rattle.uvl_semantics.specs.Tree.{Tree, Groups, Members, Head, feature, no_groups, group, no_members, member, heads_of, heads_of_groups, heads_of_members, names_of, names_of_groups, names_of_members, depth_of, depth_of_groups, depth_of_members}
+
+-- what stands at features
+abbrev attributes_at : List Head → List (List Attribute)
+attributes_at heads = map (λ head. head.attributes) heads
+
+-- what stands at features, one behind the other
+pub attributes_both : (first second : List Head) (here there : List (List Attribute)) → here ≡ attributes_at first → there ≡ attributes_at second
+    → here ++ there ≡ attributes_at (first ++ second)
+attributes_both first second here there is are =
+    ap (λ (lists : List (List Attribute)). lists ++ there) is ∙ ap (λ (lists : List (List Attribute)). attributes_at first ++ lists) are
+    ∙ sym (map-append (λ (head : Head). head.attributes) first second)
 
 module _ (qualifier : List ℕ) where
   -- names in front of others
@@ -49,3 +61,22 @@ module _ (qualifier : List ℕ) where
     depth-members (member tree others) =
         both (depth_of tree) (depth_of_members others) (depth_of (prefixed qualifier tree))
         (depth_of_members (prefixed_members qualifier others)) (depth-prefixed tree) (depth-members others)
+
+  mutual
+    -- so do the attributes
+    pub attributes-prefixed : (tree : Tree) → attributes_at (heads_of (prefixed qualifier tree)) ≡ attributes_at (heads_of tree)
+    attributes-prefixed (feature head below) = ap (λ (lists : List (List Attribute)). head.attributes ∷ lists) (attributes-groups below)
+
+    attributes-groups : (groups : Groups) → attributes_at (heads_of_groups (prefixed_groups qualifier groups)) ≡ attributes_at (heads_of_groups groups)
+    attributes-groups no_groups = refl
+    attributes-groups (group lo hi members others) =
+        sym (attributes_both (heads_of_members (prefixed_members qualifier members)) (heads_of_groups (prefixed_groups qualifier others))
+        (attributes_at (heads_of_members members)) (attributes_at (heads_of_groups others)) (sym (attributes-members members)) (sym (attributes-groups others)))
+        ∙ attributes_both (heads_of_members members) (heads_of_groups others) (attributes_at (heads_of_members members)) (attributes_at (heads_of_groups others)) refl refl
+
+    attributes-members : (members : Members) → attributes_at (heads_of_members (prefixed_members qualifier members)) ≡ attributes_at (heads_of_members members)
+    attributes-members no_members = refl
+    attributes-members (member tree others) =
+        sym (attributes_both (heads_of (prefixed qualifier tree)) (heads_of_members (prefixed_members qualifier others))
+        (attributes_at (heads_of tree)) (attributes_at (heads_of_members others)) (sym (attributes-prefixed tree)) (sym (attributes-members others)))
+        ∙ attributes_both (heads_of tree) (heads_of_members others) (attributes_at (heads_of tree)) (attributes_at (heads_of_members others)) refl refl

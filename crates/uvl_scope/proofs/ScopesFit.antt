@@ -39,7 +39,7 @@ module _ (trees : List (Option Tree)) (scopes : List Scope) (loaded : Loaded) (f
       record {
         there = line.tree;
         is = ap (tree_of_root (imports_of trees loaded)) is ∙ line.is;
-        of_tree = subst (λ (s : Scope). IsScopeOf line.tree s) scope (record { names = line.names; depth = line.depth ∙ zero-add (depth_of line.tree) });
+        of_tree = subst (λ (s : Scope). IsScopeOf line.tree s) scope (record { names = line.names; attributes = line.attributes; depth = line.depth ∙ zero-add (depth_of line.tree) });
         within = subst IsWithinLimits scope (record { distinct = small.distinct; few = small.few; shallow = small.shallow; few_rules = few.0; few_nodes = few.1 });
       }
 

@@ -1,17 +1,23 @@
 -- The scopes of files against their placed trees.
-use Rattle.std.specs.Prelude.{◌≡◌, ◌≤◌, ℕ, List, Some, slice_get, length}
+use Rattle.std.specs.Prelude.{◌≡◌, ◌≤◌, ℕ, List, Some, map, slice_get, length}
 use Rattle.uvl_base.specs.Limits.{most_features, most_depth}
+use Rattle.uvl_ast.specs.declared.feature.Attribute.{Attribute}
 use Rattle.uvl_imports.specs.declared.file_set.Loaded.{Loaded}
 use Rattle.uvl_imports.specs.Texts.{AreDistinct}
-use Rattle.uvl_semantics.specs.Tree.{Tree, names_of, depth_of}
+use Rattle.uvl_semantics.specs.Tree.{Tree, heads_of, names_of, depth_of}
 use Rattle.uvl_placing.specs.Files.{placed}
 use Rattle.uvl_scope.specs.declared.scope.Scope.{Scope}
 use Rattle.uvl_scope.specs.Faults.{HasNoFault, scopes_of}
 use Rattle.uvl_scope.specs.Limits.{most_rules, most_nodes}
 
--- the names in a scope and its depth are those of a tree
+-- what stands in the braces of each feature of a tree, in document order
+abbrev pub attributes_in : Tree → List (List Attribute)
+attributes_in tree = map (λ head. head.attributes) (heads_of tree)
+
+-- the names in a scope, what stands beside them and its depth are those of a tree
 pub record IsScopeOf (tree : Tree) (scope : Scope) : Type 0 where
   pub names : scope.names ≡ names_of tree
+  pub attributes : scope.attributes ≡ attributes_in tree
   pub depth : scope.depth ≡ depth_of tree
 
 -- there are no more names, levels, rules and nodes than a model may have, and no name stands twice

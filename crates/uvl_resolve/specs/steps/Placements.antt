@@ -10,9 +10,9 @@ use Rattle.uvl_placing.specs.Files.{placed}
 use Rattle.uvl_placing.specs.Names.{dotted, front_of, target_called}
 use Rattle.uvl_placing.specs.Options.{of_both}
 use Rattle.uvl_resolve.specs.declared.placements.Placement.{Placement}
-use Rattle.uvl_resolve.specs.steps.Rules.{IsPlain}
+use Rattle.uvl_resolve.specs.steps.Rules.{IsPlain, heads_in}
 use Rattle.uvl_scope.specs.declared.scope.Scope.{Scope}
-use Rattle.uvl_semantics.specs.Tree.{Tree, names_of}
+use Rattle.uvl_semantics.specs.Tree.{Tree, Head, heads_of}
 
 -- a placing line by the file that it places, and by the number of the feature that the root of that file is
 abbrev pub placement : ℕ → ℕ → Placement
@@ -35,26 +35,26 @@ pub record AddsPlacements (loaded : Loaded) (names : List (List ℕ)) (old new :
   pub behind : new ≡ old ++ added
   pub are : map (placement_of loaded names) references ≡ map (λ found. Some found) added
 
--- A file of a set that is accepted: it has a placed tree, whose names are these and are distinct, and each of its rules
--- is one over them.
-pub record IsReady (files : List Loaded) (at : ℕ) (loaded : Loaded) (names : List (List ℕ)) : Type 0 where
+-- A file of a set without fault: it has a placed tree, whose features are those of the scope and have distinct names,
+-- and each of its rules is one over them.
+pub record IsReady (files : List Loaded) (at : ℕ) (loaded : Loaded) (scope : Scope) : Type 0 where
   pub tree : Tree
   pub placed : slice_get (placed files) at ≡ Some (Some tree)
-  pub named : names ≡ names_of tree
-  pub distinct : AreDistinct names
-  pub plain : All (IsPlain names) (rules_of loaded.file)
+  pub heads : heads_in scope ≡ heads_of tree
+  pub distinct : AreDistinct scope.names
+  pub plain : All (IsPlain (heads_in scope)) (rules_of loaded.file)
 
 -- each file of a set is such a file, with the names of its scope
 pub record AreReady (files : List Loaded) (scopes : List Scope) : Type 0 where
   pub count : length scopes ≡ length files
   pub each : (at : ℕ) (loaded : Loaded) (scope : Scope) → slice_get files at ≡ Some loaded
-      → slice_get scopes at ≡ Some scope → IsReady files at loaded scope.names
+      → slice_get scopes at ≡ Some scope → IsReady files at loaded scope
 
--- the names of a scope, and none where there is no scope
-abbrev pub names_in : Option Scope → List (List ℕ)
-names_in None = []
-names_in (Some scope) = scope.names
+-- the features of a scope, and none where there is no scope
+abbrev pub heads_there : Option Scope → List Head
+heads_there None = []
+heads_there (Some scope) = heads_in scope
 
--- the names of the scope at a position
-abbrev pub names_at : List Scope → ℕ → List (List ℕ)
-names_at scopes at = names_in (slice_get scopes at)
+-- the features of the scope at a position
+abbrev pub heads_at : List Scope → ℕ → List Head
+heads_at scopes at = heads_there (slice_get scopes at)

@@ -11,7 +11,7 @@ model_of-requires c =
     let files = sym c.as_slice.ensures in
     record {
       whole = subst IsWhole files c.requires;
-      accepted = subst IsAccepted files c.in_ok-scopes.ensures.accepted;
+      no_fault = (subst IsAccepted files c.in_ok-scopes.ensures.accepted).no_fault;
       scopes = c.as_slice-2.ensures ∙ c.in_ok-scopes.ensures.scopes ∙ ap scopes_of files;
       trees = subst (λ (fs : List Loaded). AreScopesOf fs c.as_slice-2.result.now) files
           (subst (AreScopesOf c.args.files.now.files) (sym c.as_slice-2.ensures) c.in_ok-scopes.ensures.trees);

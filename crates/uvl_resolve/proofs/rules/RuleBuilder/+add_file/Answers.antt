@@ -1,5 +1,5 @@
 -- The rules of the file itself, and then those of each file that it places.
-use Rattle.std.proofs.Common.{◌≡◌, ◌+◌, List, ℕ, [], Option, drop, get_or, length, refl, arith, sym, ap, ◌∙◌, subst}
+use Rattle.std.proofs.Common.{◌≡◌, ◌+◌, List, [], Option, drop, get_or, length, refl, arith, sym, ap, ◌∙◌, subst}
 use Rattle.std.specs.Prelude.{slice_get}
 use Rattle.std.proofs.lemmas.List.{drop_all, drop_more}
 use Rattle.std.proofs.lemmas.Option.{same_Some, slice_get_read}
@@ -7,9 +7,11 @@ use Rattle.uvl_imports.specs.declared.file_set.Loaded.{Loaded}
 use Rattle.uvl_placing.specs.Files.{placings_of_root, said}
 use Rattle.uvl_placing.specs.Options.{known}
 use Rattle.uvl_resolve.specs.declared.placements.Placement.{Placement}
-use Rattle.uvl_resolve.specs.steps.Placements.{AddsPlacements, names_at, names_in, placement}
-use Rattle.uvl_resolve.specs.steps.Rules.{Says}
+use Rattle.uvl_resolve.specs.steps.Placements.{AddsPlacements, heads_at, heads_there, placement}
+use Rattle.uvl_resolve.specs.steps.Rules.{Says, heads_in}
+use Rattle.uvl_resolve.proofs.Heads.{count_with}
 use Rattle.uvl_resolve.proofs.Placing.{FilesGoOn, all_placed, file_says, files_begin, files_end, files_step}
+use Rattle.uvl_semantics.specs.Tree.{Head}
 use Rattle.uvl_scope.specs.declared.scope.Scope.{Scope}
 use Rattle.uvl_resolve.proofs.rules.RuleBuilder.+add_file.Goals as goal
 
@@ -59,7 +61,7 @@ overflow_add-number t c =
     let first = files_step files scopes c.requires.whole law c.requires.ready c.args.at loaded scope there found c.args.offset c.add_own.new.self.rules c.loop-placement.self.rules p (drop (i + 1) all)
     (subst (FilesGoOn files scopes c.requires.whole law c.requires.ready c.args.at loaded scope there found c.args.offset c.add_own.new.self.rules c.loop-placement.self.rules)
     (drop_more all i (placement 0 0) c.loop-placement-test.true) go) in
-    let names : length (names_at scopes c.args.at) ≡ length scope.names = ap (λ (o : Option Scope). length (names_in o)) found in
+    let names : length (heads_at scopes c.args.at) ≡ length (heads_in scope) = ap (λ (o : Option Scope). length (heads_there o)) found in
     omega (arith, first.file.room, names, c.requires.few)
 
 pub add_file-requires : goal.add_file-requires
@@ -78,7 +80,7 @@ add_file-requires t c =
     let first = files_step files scopes c.requires.whole law c.requires.ready c.args.at loaded scope there found c.args.offset c.add_own.new.self.rules c.loop-placement.self.rules p (drop (i + 1) all)
     (subst (FilesGoOn files scopes c.requires.whole law c.requires.ready c.args.at loaded scope there found c.args.offset c.add_own.new.self.rules c.loop-placement.self.rules)
     (drop_more all i (placement 0 0) c.loop-placement-test.true) go) in
-    let names : length (names_at scopes c.args.at) ≡ length scope.names = ap (λ (o : Option Scope). length (names_in o)) found in (
+    let names : length (heads_at scopes c.args.at) ≡ length (heads_in scope) = ap (λ (o : Option Scope). length (heads_there o)) found in (
       omega (arith, first.file.in_front),
       (
         c.requires.whole,
@@ -114,6 +116,13 @@ returns t c =
     let last = subst (FilesGoOn files scopes c.requires.whole law c.requires.ready c.args.at loaded scope there found c.args.offset c.add_own.new.self.rules c.loop-placement.self.rules)
     (drop_all i all c.loop-placement-test.false) go in
     let placed_rules = files_end files scopes c.requires.whole law c.requires.ready c.args.at loaded scope there found c.args.offset c.add_own.new.self.rules c.loop-placement.self.rules last in
-    subst (λ (ns : List (List ℕ)). Says ns c.args.offset c.args.self.now.rules c.loop-placement.self.rules (known (slice_get (said files) c.args.at))) (sym (ap names_in found))
+    subst (λ (hs : List Head). Says hs c.args.offset c.args.self.now.rules c.loop-placement.self.rules (known (slice_get (said files) c.args.at))) (sym (ap heads_there found))
     (file_says files scopes c.requires.whole law c.requires.ready c.args.at loaded scope there found c.args.offset c.args.self.now.rules c.add_own.new.self.rules c.loop-placement.self.rules
     c.in_ok-add_own.ensures placed_rules)
+
+pub add_own-requires-clause-few : goal.add_own-requires-clause-few
+add_own-requires-clause-few t c =
+    let scope = c.index-scopes-at.result in
+    let found = slice_get_read c.args.scopes.now _ c.args.at scope refl (omega (arith, c.requires.there, c.requires.ready.count)) c.index-scopes-at.is in
+    let heads : length (heads_at c.args.scopes.now c.args.at) ≡ length (heads_in scope) = ap (λ (o : Option Scope). length (heads_there o)) found in
+    omega (arith, c.requires.few, heads, count_with scope.names scope.attributes)
