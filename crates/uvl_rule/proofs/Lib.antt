@@ -1,3 +1,4 @@
+pub mod ComparisonLemmas
 pub mod ClimbLemmas
 pub mod MeaningLemmas
 pub mod PartLemmas
