@@ -30,7 +30,8 @@ use Rattle.uvl_sums.specs.declared.linear.Cmp3.{Cmp3}
 use Rattle.uvl_sums.specs.declared.linear.Cmp3.TheVariants as cmp3
 use Rattle.uvl_sums.specs.Sums.{Term, IsCauseOfSum, IsSum, comparison, size_of, total, variables_of}
 use Rattle.uvl_sums.specs.Sums as sums
-use Rattle.uvl_rule.specs.Comparisons.{comparison_function, difference_function, weighed}
+use Rattle.uvl_functions.specs.Functions.{comparison_function}
+use Rattle.uvl_rule.specs.Comparisons.{difference_function, weighed}
 
 -- ---- a term that may be left out
 

@@ -4,26 +4,19 @@ use Rattle.dd_store.specs.declared.row.Var.{Var}
 use Rattle.dd_store.specs.Size.{Function}
 use Rattle.uvl_functions.specs.Variables.{marks_under}
 use Rattle.uvl_model.specs.declared.rows.FeatureRow.{FeatureRow}
-use Rattle.uvl_model.specs.declared.rule.Cmp.{Cmp}
 use Rattle.uvl_model.specs.declared.rule.Number.{Number}
 use Rattle.uvl_model.specs.Amounts.{amount_of, most_terms}
-use Rattle.uvl_model.specs.Constraints.{comparison_of}
 use Rattle.uvl_model.specs.Rows.{Rows}
 use Rattle.uvl_model.specs.Rules.{IsNumber, terms_of}
-use Rattle.uvl_semantics.specs.Holding.{compares}
 use Rattle.uvl_sums.specs.declared.linear.Cmp3.{Cmp3}
 use Rattle.uvl_sums.specs.Sums.{Term}
 use Rattle.uvl_sums.specs.Sums as sums
 
--- two numbers compare so for the features whose variables are true
-abbrev pub comparison_function : List Var → List FeatureRow → Cmp → Number → Number → Function
-comparison_function vars rows how left right a =
-    compares (comparison_of how) (amount_of rows (marks_under vars a) left).value (amount_of rows (marks_under vars a) right).value
-
 -- the first number without the second one compares so with 0
 abbrev pub difference_function : List Var → List FeatureRow → Cmp3 → Number → Number → Function
 difference_function vars rows how first second a =
-    sums.compares how ((amount_of rows (marks_under vars a) first).value -ℤ (amount_of rows (marks_under vars a) second).value)
+    sums.compares how
+    ((amount_of rows (marks_under vars a) first).value -ℤ (amount_of rows (marks_under vars a) second).value)
 
 -- two numbers that a rule may compare
 pub record AreSides (rows : Rows) (left right : Number) : Type 0 where

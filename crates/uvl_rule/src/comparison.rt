@@ -6,7 +6,8 @@ ghost use Rattle.dd_store.specs.Handles.{GainsHandle, KeepsHandles};
 ghost use Rattle.uvl_functions.specs.Cause.{IsShortFor};
 ghost use Rattle.uvl_functions.specs.RuleParts.{group_of};
 ghost use Rattle.uvl_functions.specs.Variables.{HasVariables};
-ghost use Rattle.uvl_rule.specs.Comparisons.{comparison_function, difference_function, term_of, weighed, AreSides};
+ghost use Rattle.uvl_functions.specs.Functions.{comparison_function};
+ghost use Rattle.uvl_rule.specs.Comparisons.{difference_function, term_of, weighed, AreSides};
 
 use crate::connective::negate;
 use dd_apply::Kernel;

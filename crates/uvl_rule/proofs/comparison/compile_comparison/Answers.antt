@@ -6,7 +6,8 @@ use Rattle.dd_store.proofs.ChangeLemmas.{keeps_then}
 use Rattle.dd_store.proofs.CountLemmas.{live_gained}
 use Rattle.uvl_functions.specs.RuleParts.{opposite}
 use Rattle.uvl_sums.specs.declared.linear.Cmp3.TheVariants as cmp3
-use Rattle.uvl_rule.specs.Comparisons.{comparison_function, difference_function}
+use Rattle.uvl_functions.specs.Functions.{comparison_function}
+use Rattle.uvl_rule.specs.Comparisons.{difference_function}
 use Rattle.uvl_rule.proofs.ComparisonLemmas.{told-same, cause-same, opposite-cause, negated-refused, same-Equal, same-Differs, same-Less, same-AtMost, same-Greater, same-AtLeast}
 use Rattle.uvl_rule.proofs.comparison.compile_comparison.Goals as goal
 
