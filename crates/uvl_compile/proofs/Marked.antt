@@ -6,9 +6,11 @@ use Rattle.std.proofs.lemmas.List.{length-map}
 use Rattle.std.proofs.lemmas.List.Elements.{All-head, All-tail}
 use Rattle.dd_store.specs.declared.row.Var.{Var}
 use Rattle.dd_store.specs.Size.{Function}
+use Rattle.uvl_model.specs.declared.rows.FeatureRow.{FeatureRow}
 use Rattle.uvl_model.specs.declared.rows.GroupRow.{GroupRow}
 use Rattle.uvl_model.specs.declared.rule.Rule.{Rule}
-use Rattle.uvl_model.specs.Check.{group_holds, rule_holds}
+use Rattle.uvl_model.specs.Amounts.{rule_is_met}
+use Rattle.uvl_model.specs.Check.{group_holds}
 use Rattle.uvl_model.specs.Rows.{Rows}
 use Rattle.uvl_functions.specs.Functions.{group_function, rule_function, root_function, model_function}
 use Rattle.uvl_functions.specs.Variables.{marks_under}
@@ -59,17 +61,18 @@ marked-all (f ∷ fs) (mark ∷ marks) count all a =
     let rest = marked-all fs marks (omega arith) parts.1 a in
     rw (first, rest) refl
 
-rules-all : (vars : List Var) (rules : List Rule) (a : ℕ → Bool) → list_all (λ f. f a) (map (rule_function vars) rules) ≡ list_all (rule_holds (marks_under vars a)) rules
-rules-all vars [] a = refl
-rules-all vars (rule ∷ rules) a = ap (λ b. rule_holds (marks_under vars a) rule && b) (rules-all vars rules a)
+rules-all : (vars : List Var) (features : List FeatureRow) (rules : List Rule) (a : ℕ → Bool)
+    → list_all (λ f. f a) (map (rule_function vars features) rules) ≡ list_all (rule_is_met features (marks_under vars a)) rules
+rules-all vars features [] a = refl
+rules-all vars features (rule ∷ rules) a = ap (λ b. rule_is_met features (marks_under vars a) rule && b) (rules-all vars features rules a)
 
-groups-all : (vars : List Var) (groups : List GroupRow) (rules : List Rule) (a : ℕ → Bool)
-    → list_all (λ f. f a) (map (group_function vars) groups ++ map (rule_function vars) rules)
-    ≡ (list_all (group_holds (marks_under vars a)) groups && list_all (rule_holds (marks_under vars a)) rules)
-groups-all vars [] rules a = rules-all vars rules a
-groups-all vars (group ∷ groups) rules a =
-    ap (λ b. group_holds (marks_under vars a) group && b) (groups-all vars groups rules a)
-    ∙ and-assoc (group_holds (marks_under vars a) group) (list_all (group_holds (marks_under vars a)) groups) (list_all (rule_holds (marks_under vars a)) rules)
+groups-all : (vars : List Var) (features : List FeatureRow) (groups : List GroupRow) (rules : List Rule) (a : ℕ → Bool)
+    → list_all (λ f. f a) (map (group_function vars) groups ++ map (rule_function vars features) rules)
+    ≡ (list_all (group_holds (marks_under vars a)) groups && list_all (rule_is_met features (marks_under vars a)) rules)
+groups-all vars features [] rules a = rules-all vars features rules a
+groups-all vars features (group ∷ groups) rules a =
+    ap (λ b. group_holds (marks_under vars a) group && b) (groups-all vars features groups rules a)
+    ∙ and-assoc (group_holds (marks_under vars a) group) (list_all (group_holds (marks_under vars a)) groups) (list_all (rule_is_met features (marks_under vars a)) rules)
 
 -- where nothing is met the root alone is chosen
 pub nothing-met : (vars : List Var) (rows : Rows) (marks : List Bool) → All (λ mark. mark ≡ false) marks → root_function vars ≡ so_far vars rows marks
@@ -85,17 +88,17 @@ one-more vars rows marks k count less none = λ j a.
 
 -- all of them
 pub all-met : (vars : List Var) (rows : Rows) (marks : List Bool) → length marks ≡ length (conditions vars rows) → list_all (λ mark. mark) marks ≡ true
-    → so_far vars rows marks ≡ model_function vars rows.groups rows.rules
+    → so_far vars rows marks ≡ model_function vars rows rows.rules
 all-met vars rows marks count all = λ j a.
-    (ap (λ b. root_function vars a && b) (marked-all (conditions vars rows) marks count all a ∙ groups-all vars rows.groups rows.rules a)
-    ∙ and-assoc (root_function vars a) (list_all (group_holds (marks_under vars a)) rows.groups) (list_all (rule_holds (marks_under vars a)) rows.rules)) j
+    (ap (λ b. root_function vars a && b) (marked-all (conditions vars rows) marks count all a ∙ groups-all vars rows.features rows.groups rows.rules a)
+    ∙ and-assoc (root_function vars a) (list_all (group_holds (marks_under vars a)) rows.groups) (list_all (rule_is_met rows.features (marks_under vars a)) rows.rules)) j
 
 -- how many there are
 pub conditions-count : (vars : List Var) (rows : Rows) → length (conditions vars rows) ≡ length rows.groups + length rows.rules
 conditions-count vars rows =
-    let all = length-append (map (group_function vars) rows.groups) (map (rule_function vars) rows.rules) in
+    let all = length-append (map (group_function vars) rows.groups) (map (rule_function vars rows.features) rows.rules) in
     let one = length-map rows.groups (group_function vars) in
-    let two = length-map rows.rules (rule_function vars) in
+    let two = length-map rows.rules (rule_function vars rows.features) in
     omega arith
 
 -- the group with a number, and the rule behind the groups
@@ -103,26 +106,26 @@ pub group-at : (vars : List Var) (rows : Rows) (k : ℕ) (group : GroupRow) → 
 group-at vars rows k group is = go rows.groups k is
   where
     go : (groups : List GroupRow) (n : ℕ) → slice_get groups n ≡ Some group
-        → group_function vars group ≡ get_or (map (group_function vars) groups ++ map (rule_function vars) rows.rules) n (λ a. true)
+        → group_function vars group ≡ get_or (map (group_function vars) groups ++ map (rule_function vars rows.features) rows.rules) n (λ a. true)
     go [] n at = cc
     go (g ∷ groups) zero at = let same : g ≡ group = cc in ap (group_function vars) (sym same)
     go (g ∷ groups) (suc n) at = go groups n at
 
-rule-from : (vars : List Var) (rules : List Rule) (k : ℕ) (rule : Rule) → rule ≡ get_or rules k rule → k < length rules
-    → rule_function vars rule ≡ get_or (map (rule_function vars) rules) k (λ a. true)
-rule-from vars [] k rule is less = absurd (omega arith)
-rule-from vars (r ∷ rules) zero rule is less = ap (rule_function vars) is
-rule-from vars (r ∷ rules) (suc k) rule is less = rule-from vars rules k rule is (omega arith)
+rule-from : (vars : List Var) (features : List FeatureRow) (rules : List Rule) (k : ℕ) (rule : Rule) → rule ≡ get_or rules k rule → k < length rules
+    → rule_function vars features rule ≡ get_or (map (rule_function vars features) rules) k (λ a. true)
+rule-from vars features [] k rule is less = absurd (omega arith)
+rule-from vars features (r ∷ rules) zero rule is less = ap (rule_function vars features) is
+rule-from vars features (r ∷ rules) (suc k) rule is less = rule-from vars features rules k rule is (omega arith)
 
 pub rule-at : (vars : List Var) (rows : Rows) (k : ℕ) (rule : Rule) → length rows.groups ≤ k → k - length rows.groups < length rows.rules
-    → rule ≡ get_or rows.rules (k - length rows.groups) rule → rule_function vars rule ≡ condition_at vars rows k
+    → rule ≡ get_or rows.rules (k - length rows.groups) rule → rule_function vars rows.features rule ≡ condition_at vars rows k
 rule-at vars rows k rule behind less is = go rows.groups k behind less is
   where
     go : (groups : List GroupRow) (n : ℕ) → length groups ≤ n → n - length groups < length rows.rules → rule ≡ get_or rows.rules (n - length groups) rule
-        → rule_function vars rule ≡ get_or (map (group_function vars) groups ++ map (rule_function vars) rows.rules) n (λ a. true)
+        → rule_function vars rows.features rule ≡ get_or (map (group_function vars) groups ++ map (rule_function vars rows.features) rows.rules) n (λ a. true)
     go [] n most within at =
         let same : n - 0 ≡ n = omega arith in
-        rule-from vars rows.rules n rule (subst (λ (m : ℕ). rule ≡ get_or rows.rules m rule) same at) (omega arith)
+        rule-from vars rows.features rows.rules n rule (subst (λ (m : ℕ). rule ≡ get_or rows.rules m rule) same at) (omega arith)
     go (g ∷ groups) zero most within at = absurd (omega arith)
     go (g ∷ groups) (suc n) most within at =
         let same : suc n - suc (length groups) ≡ n - length groups = omega arith in
@@ -134,7 +137,7 @@ root-is [] v is a = cc
 root-is (w ∷ vars) v is a = let same : w ≡ v = cc in ap (λ (u : Var). a u.0) (sym same)
 
 pub rule-shown : (vars : List Var) (rows : Rows) (groups : List GroupRow) (rules : List Rule) → groups ≡ rows.groups → rules ≡ rows.rules → (k : ℕ) (rule : Rule)
-    → length groups ≤ k → k < length (conditions vars rows) → rule ≡ get_or rules (k - length groups) rule → rule_function vars rule ≡ condition_at vars rows k
+    → length groups ≤ k → k < length (conditions vars rows) → rule ≡ get_or rules (k - length groups) rule → rule_function vars rows.features rule ≡ condition_at vars rows k
 rule-shown vars rows groups rules shown_groups shown_rules k rule behind less is =
     let count = conditions-count vars rows in
     let same = ap length shown_groups in

@@ -7,7 +7,7 @@ use Rattle.uvl_functions.specs.Functions.{group_function, rule_function, root_fu
 
 -- what each group says, and behind them what each rule says
 abbrev pub conditions : List Var → Rows → List Function
-conditions vars rows = map (group_function vars) rows.groups ++ map (rule_function vars) rows.rules
+conditions vars rows = map (group_function vars) rows.groups ++ map (rule_function vars rows.features) rows.rules
 
 -- the condition with a number
 abbrev pub condition_at : List Var → Rows → ℕ → Function

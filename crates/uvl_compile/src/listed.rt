@@ -1,11 +1,10 @@
 //! The diagram of a model's products as the groups of functions list it: the tree, and then rule by rule.
-ghost use Rattle.std.specs.Prelude.{◌≡◌, IsTrue, IfOk, IfErr, OnErr};
-ghost use Rattle.std.specs.List.{All};
+ghost use Rattle.std.specs.Prelude.{◌≡◌, IfOk, IfErr, OnErr};
 ghost use Rattle.dd_store.specs.Changes.{Keeps};
 ghost use Rattle.dd_store.specs.Exhausted.{value_at};
 ghost use Rattle.dd_store.specs.Handles.{KeepsHandles, GainsHandle, LosesHandle};
-ghost use Rattle.dd_store.specs.Table.{IsLive, IsVariable};
-ghost use Rattle.uvl_model.specs.Comparisons.{HaveNoComparison, has_no_comparison};
+ghost use Rattle.dd_store.specs.Table.{IsLive};
+ghost use Rattle.uvl_model.specs.Amounts.{IsReadable};
 ghost use Rattle.uvl_functions.specs.Cause.{IsShortFor};
 ghost use Rattle.uvl_functions.specs.Functions.{model_function, rule_function};
 ghost use Rattle.uvl_functions.specs.Groups.{compile_groups};
@@ -30,10 +29,9 @@ pub(crate) fn listed(
     model: &Model,
     map: &VarMap,
 ) -> Result<Handle, Refusal>
-    requires variables { HasVariables kernel.old model.now map.now }
-    requires boolean { HaveNoComparison model.now }
+    requires { HasVariables kernel.old model.now map.now }
     ensures value { IfOk result (λ h.
-        value_at kernel.new h ≡ model_function map.now model.now.groups model.now.rules) }
+        value_at kernel.new h ≡ model_function map.now model.now model.now.rules) }
     ensures gained { IfOk result (GainsHandle kernel.old kernel.new) }
     ensures refused { OnErr result (KeepsHandles kernel.old kernel.new) }
     ensures keeps { Keeps kernel.old kernel.new }
@@ -42,7 +40,7 @@ pub(crate) fn listed(
     models_give_products();
     let mut products = compile_tree(kernel, alloc, model, map)?;
     for rule in model.rules() {
-        products = with_rule(kernel, alloc, map, rule, products)?;
+        products = with_rule(kernel, alloc, model, map, rule, products)?;
     }
     Ok(products)
 }
@@ -51,21 +49,23 @@ pub(crate) fn listed(
 fn with_rule(
     kernel: &mut Kernel,
     alloc: Global,
+    model: &Model,
     map: &VarMap,
     rule: &Rule,
     held: Handle,
 ) -> Result<Handle, Refusal>
-    requires variables { All (λ v. IsVariable kernel.old v.0) map.now }
+    requires variables { HasVariables kernel.old model.now map.now }
+    requires readable { IsReadable model.now rule.now }
     requires live { IsLive kernel.old held }
-    requires boolean { IsTrue (has_no_comparison rule.now) }
     ensures value { IfOk result (λ h.
-        value_at kernel.new h ≡ both (value_at kernel.old held) (rule_function map.now rule.now)) }
+        value_at kernel.new h ≡ both (value_at kernel.old held) (rule_function map.now model.now.features rule.now)) }
     ensures replaced { IfOk result (Replaces kernel.old kernel.new held) }
     ensures lost { OnErr result (LosesHandle kernel.old kernel.new held) }
     ensures keeps { Keeps kernel.old kernel.new }
-    ensures cause { IfErr result (IsShortFor kernel.old (step_groups map.now (value_at kernel.old held) rule.now)) }
+    ensures cause { IfErr result (IsShortFor kernel.old
+        (step_groups map.now model.now.features (value_at kernel.old held) rule.now)) }
 {
-    match listed_rule(kernel, alloc, map, rule) {
+    match listed_rule(kernel, alloc, model, map, rule) {
         Ok(made) => meet(kernel, alloc, held, made),
         Err(refusal) => {
             kernel.release(held);

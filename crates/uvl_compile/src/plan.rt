@@ -29,7 +29,7 @@ pub(crate) fn near(alloc: Global, model: &Model) -> Result<Vec<usize>, OutOfMemo
     let parents = are_parents(alloc, model.features(), groups)?;
     let mut places = group_places(alloc, groups)?;
     for (number, rule) in model.rules().iter().enumerate() {
-        let span = span_of(rule);
+        let span = span_of(rule, &ends);
         places.push(Place {
             down: u32::MAX - feature_before(model.features(), &ends, &parents, span),
             rank: span.length().saturating_add(1),
@@ -46,7 +46,7 @@ pub(crate) fn upward(alloc: Global, model: &Model) -> Result<Vec<usize>, OutOfMe
     for (number, rule) in model.rules().iter().enumerate() {
         places.push(Place {
             down: u32::MAX,
-            rank: u32::MAX - span_of(rule).least,
+            rank: u32::MAX - span_of(rule, &[]).least,
             number: groups.len().saturating_add(number),
         })?;
     }
@@ -77,10 +77,10 @@ fn numbers_of(alloc: Global, mut places: Vec<Place>) -> Result<Vec<usize>, OutOf
 }
 
 /// The last feature of each feature's subtree.
-fn subtree_ends(alloc: Global, features: &[FeatureRow]) -> Result<Vec<usize>, OutOfMemory> {
+fn subtree_ends(alloc: Global, features: &[FeatureRow]) -> Result<Vec<u32>, OutOfMemory> {
     let mut ends = Vec::new(alloc);
     for number in 0..features.len() {
-        ends.push(number)?;
+        ends.push(number.min(u32::MAX as usize) as u32)?;
     }
     for (number, row) in features.iter().enumerate().rev() {
         if let Some(parent) = row.parent {
@@ -92,13 +92,13 @@ fn subtree_ends(alloc: Global, features: &[FeatureRow]) -> Result<Vec<usize>, Ou
 }
 
 /// The subtree of a feature ends no earlier than that of its child.
-fn raise(ends: &mut [usize], feature: FeatureNo, end: usize) {
+fn raise(ends: &mut [u32], feature: FeatureNo, end: u32) {
     if let Some(last) = ends.get_mut(feature.0 as usize) {
         *last = end.max(*last);
     }
 }
 
-fn number_at(numbers: &[usize], place: usize) -> usize {
+fn number_at(numbers: &[u32], place: usize) -> u32 {
     numbers.get(place).copied().unwrap_or(0)
 }
 
@@ -118,7 +118,7 @@ fn are_parents(
 }
 
 /// The feature behind whose groups a rule with a span is met.
-fn feature_before(features: &[FeatureRow], ends: &[usize], parents: &[bool], span: Span) -> u32 {
+fn feature_before(features: &[FeatureRow], ends: &[u32], parents: &[bool], span: Span) -> u32 {
     if span.length() <= SHORT_SPAN {
         return span.least;
     }
@@ -126,11 +126,11 @@ fn feature_before(features: &[FeatureRow], ends: &[usize], parents: &[bool], spa
 }
 
 /// The deepest feature that has groups and whose subtree has a span.
-fn feature_above(features: &[FeatureRow], ends: &[usize], parents: &[bool], span: Span) -> u32 {
+fn feature_above(features: &[FeatureRow], ends: &[u32], parents: &[bool], span: Span) -> u32 {
     let mut feature = span.least;
     for _ in 0..MOST_DEPTH {
         if let Some(true) = parents.get(feature as usize)
-            && span.greatest as usize <= number_at(ends, feature as usize)
+            && span.greatest <= number_at(ends, feature as usize)
         {
             return feature;
         }

@@ -34,7 +34,7 @@ pub(crate) fn by_plan(
 ) -> Result<Option<Handle>, OutOfMemory>
     requires { HasVariables kernel.old model.now map.now }
     ensures value { IfOk result (λ made. IfSome made (λ h.
-        value_at kernel.new h ≡ model_function map.now model.now.groups model.now.rules)) }
+        value_at kernel.new h ≡ model_function map.now model.now model.now.rules)) }
     ensures gained { IfOk result (λ made. IfSome made (GainsHandle kernel.old kernel.new)) }
     ensures none { IfOk result (λ made. IfNone made (KeepsHandles kernel.old kernel.new)) }
     ensures refused { OnErr result (KeepsHandles kernel.old kernel.new) }
@@ -57,7 +57,7 @@ fn planned(
 ) -> Result<Option<Handle>, Refusal>
     requires { HasVariables kernel.old model.now map.now }
     ensures value { IfOk result (λ made. IfSome made (λ h.
-        value_at kernel.new h ≡ model_function map.now model.now.groups model.now.rules)) }
+        value_at kernel.new h ≡ model_function map.now model.now model.now.rules)) }
     ensures gained { IfOk result (λ made. IfSome made (GainsHandle kernel.old kernel.new)) }
     ensures none { IfOk result (λ made. IfNone made (KeepsHandles kernel.old kernel.new)) }
     ensures refused { OnErr result (KeepsHandles kernel.old kernel.new) }
@@ -82,7 +82,7 @@ fn by_marks(
     requires count { length done.old ≡ length (conditions map.now model.now) }
     requires none { All (λ mark. mark ≡ false) done.old }
     ensures value { IfOk result (λ made. IfSome made (λ h.
-        value_at kernel.new h ≡ model_function map.now model.now.groups model.now.rules)) }
+        value_at kernel.new h ≡ model_function map.now model.now model.now.rules)) }
     ensures gained { IfOk result (λ made. IfSome made (GainsHandle kernel.old kernel.new)) }
     ensures none { IfOk result (λ made. IfNone made (KeepsHandles kernel.old kernel.new)) }
     ensures refused { OnErr result (KeepsHandles kernel.old kernel.new) }
@@ -290,7 +290,7 @@ fn condition(
         None => {
             let rules = model.rules();
             let place = number - groups.len();
-            quick_rule(kernel, alloc, map, &rules[place])
+            quick_rule(kernel, alloc, model, map, &rules[place])
         }
     }
 }

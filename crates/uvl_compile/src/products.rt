@@ -4,7 +4,6 @@ ghost use Rattle.dd_store.specs.Changes.{Keeps};
 ghost use Rattle.dd_store.specs.Exhausted.{value_at};
 ghost use Rattle.dd_store.specs.Handles.{KeepsHandles, GainsHandle};
 ghost use Rattle.dd_store.specs.Table.{value_of};
-ghost use Rattle.uvl_model.specs.Comparisons.{HaveNoComparison};
 ghost use Rattle.uvl_functions.specs.Cause.{IsShortFor};
 ghost use Rattle.uvl_functions.specs.Functions.{products_of, model_function};
 ghost use Rattle.uvl_functions.specs.Groups.{compile_groups};
@@ -20,7 +19,7 @@ use uvl_functions::{VarMap, models_give_products};
 use uvl_model::Model;
 
 /// A handle whose value for an assignment is whether the features with a true variable are a product of the model.
-/// Other variables have no say. No rule may have a comparison.
+/// Other variables have no say.
 ///
 /// Two plans go in front: each meets the conditions of the model in an order that keeps diagrams small. Where both meet
 /// the budget, all is given back, and the order of the listed groups is gone, of which alone a refusal speaks.
@@ -30,8 +29,7 @@ pub fn compile(
     model: &Model,
     map: &VarMap,
 ) -> Result<Handle, Refusal>
-    requires variables { HasVariables kernel.old model.now map.now }
-    requires boolean { HaveNoComparison model.now }
+    requires { HasVariables kernel.old model.now map.now }
     ensures value { IfOk result (λ h. (a : ℕ → Bool) → value_of kernel.new h a ≡ products_of map.now model.now a) }
     ensures gained { IfOk result (GainsHandle kernel.old kernel.new) }
     ensures refused { OnErr result (KeepsHandles kernel.old kernel.new) }
@@ -59,7 +57,7 @@ fn fast(
 ) -> Result<Option<Handle>, OutOfMemory>
     requires { HasVariables kernel.old model.now map.now }
     ensures value { IfOk result (λ made. IfSome made (λ h.
-        value_at kernel.new h ≡ model_function map.now model.now.groups model.now.rules)) }
+        value_at kernel.new h ≡ model_function map.now model.now model.now.rules)) }
     ensures gained { IfOk result (λ made. IfSome made (GainsHandle kernel.old kernel.new)) }
     ensures none { IfOk result (λ made. IfNone made (KeepsHandles kernel.old kernel.new)) }
     ensures refused { OnErr result (KeepsHandles kernel.old kernel.new) }

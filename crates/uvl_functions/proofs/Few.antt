@@ -9,6 +9,7 @@ use Rattle.dd_store.specs.declared.row.Var.{Var}
 use Rattle.dd_store.specs.Size.{Function}
 use Rattle.dd_store.proofs.SizeLemmas.{In}
 use Rattle.uvl_base.specs.Limits.{most_right_operands}
+use Rattle.uvl_model.specs.declared.rows.FeatureRow.{FeatureRow}
 use Rattle.uvl_model.specs.declared.rows.GroupRow.{GroupRow}
 use Rattle.uvl_model.specs.declared.rule.Rule.{Rule}
 use Rattle.uvl_model.specs.declared.rule.Rule.TheOpen.{Rule-F}
@@ -50,71 +51,74 @@ group-length whole operands beside =
     let same = length-map (whole ∷ operands) opposite in
     omega arith
 
-module _ (vars : List Var) where
+module _ (vars : List Var) (features : List FeatureRow) where
   -- the groups of a rule are small: a subrule has few operands, and stands in few right operands
   abbrev IsSmall : Rule → Type 0
-  IsSmall rule = (beside : List Function) → Few (6 + length beside + right_operands rule) ((parts_of vars rule).groups beside)
+  IsSmall rule = (beside : List Function) → Few (6 + length beside + right_operands rule) ((parts_of vars features rule).groups beside)
 
   abbrev SmallRule : Type 0
   SmallRule = (rule : Rule) × IsSmall rule
 
-  parts : (x : Rule-F Rule) → parts_of vars (roll-Rule x) ≡ parts_node vars (map-Rule Rule Parts (parts_of vars) x)
-  parts = fold-roll-Rule Parts (parts_node vars)
+  parts : (x : Rule-F Rule) → parts_of vars features (roll-Rule x) ≡ parts_node vars features (map-Rule Rule Parts (parts_of vars features) x)
+  parts = fold-roll-Rule Parts (parts_node vars features)
 
   operands : (x : Rule-F Rule) → right_operands (roll-Rule x) ≡ operands_node (map-Rule Rule ℕ right_operands x)
   operands = fold-roll-Rule ℕ operands_node
 
   -- an operator
   both : (whole : Function) (l r : SmallRule) (beside : List Function)
-      → Few (6 + length beside + max (right_operands l.0) (right_operands r.0 + 1)) ((operator whole (parts_of vars l.0) (parts_of vars r.0)).groups beside)
+      → Few (6 + length beside + max (right_operands l.0) (right_operands r.0 + 1)) ((operator whole (parts_of vars features l.0) (parts_of vars features r.0)).groups beside)
   both whole l r beside =
       let m = max (right_operands l.0) (right_operands r.0 + 1) in
-      let f = (parts_of vars l.0).whole in
-      let g = (parts_of vars r.0).whole in
+      let f = (parts_of vars features l.0).whole in
+      let g = (parts_of vars features r.0).whole in
       let size = group-length whole (f ∷ g ∷ []) beside in
       let left = le-max_left (right_operands l.0) (right_operands r.0 + 1) in
       let right = le-max_right (right_operands l.0) (right_operands r.0 + 1) in
       let own : length (group_of whole (f ∷ g ∷ []) beside) ≤ 6 + length beside + m = omega arith in (
         own,
-        few-append (6 + length beside + m) ((parts_of vars l.0).groups beside) ((parts_of vars r.0).groups (f ∷ beside))
-            (few-more (6 + length beside + right_operands l.0) (6 + length beside + m) ((parts_of vars l.0).groups beside) (omega arith) (l.1 beside))
-            (few-more (6 + length (f ∷ beside) + right_operands r.0) (6 + length beside + m) ((parts_of vars r.0).groups (f ∷ beside)) (omega arith) (r.1 (f ∷ beside))),
+        few-append (6 + length beside + m) ((parts_of vars features l.0).groups beside) ((parts_of vars features r.0).groups (f ∷ beside))
+            (few-more (6 + length beside + right_operands l.0) (6 + length beside + m) ((parts_of vars features l.0).groups beside) (omega arith) (l.1 beside))
+            (few-more (6 + length (f ∷ beside) + right_operands r.0) (6 + length beside + m) ((parts_of vars features r.0).groups (f ∷ beside)) (omega arith) (r.1 (f ∷ beside))),
       )
 
   -- a node, by what its operands have
   to : (x : Rule-F Rule) (beside : List Function)
-      → Few (6 + length beside + operands_node (map-Rule Rule ℕ right_operands x)) ((parts_node vars (map-Rule Rule Parts (parts_of vars) x)).groups beside)
-      → Few (6 + length beside + right_operands (roll-Rule x)) ((parts_of vars (roll-Rule x)).groups beside)
+      → Few (6 + length beside + operands_node (map-Rule Rule ℕ right_operands x)) ((parts_node vars features (map-Rule Rule Parts (parts_of vars features) x)).groups beside)
+      → Few (6 + length beside + right_operands (roll-Rule x)) ((parts_of vars features (roll-Rule x)).groups beside)
   to x beside few =
-      subst (λ (n : ℕ). Few (6 + length beside + n) ((parts_of vars (roll-Rule x)).groups beside)) (sym (operands x))
+      subst (λ (n : ℕ). Few (6 + length beside + n) ((parts_of vars features (roll-Rule x)).groups beside)) (sym (operands x))
       (subst (λ (p : Parts). Few (6 + length beside + operands_node (map-Rule Rule ℕ right_operands x)) (p.groups beside)) (sym (parts x)) few)
 
   node : (y : Rule-F SmallRule) → IsSmall (roll-Rule (map-Rule SmallRule Rule (λ e. e.0) y))
   node (Rule-F.Feature f) beside =
-      let size = group-length (parts_node vars (Rule-F.Feature f)).whole [] beside in
+      let size = group-length (parts_node vars features (Rule-F.Feature f)).whole [] beside in
       to (Rule-F.Feature f) beside (omega arith, tt)
   node (Rule-F.Not p) beside =
-      let q = parts_of vars p.0 in
+      let q = parts_of vars features p.0 in
       let size = group-length (opposite q.whole) (q.whole ∷ []) beside in
       to (Rule-F.Not p.0) beside (omega arith, p.1 beside)
-  node (Rule-F.And l r) beside = to (Rule-F.And l.0 r.0) beside (both (λ a. (parts_of vars l.0).whole a && (parts_of vars r.0).whole a) l r beside)
-  node (Rule-F.Or l r) beside = to (Rule-F.Or l.0 r.0) beside (both (λ a. (parts_of vars l.0).whole a || (parts_of vars r.0).whole a) l r beside)
-  node (Rule-F.Implies l r) beside = to (Rule-F.Implies l.0 r.0) beside (both (λ a. not ((parts_of vars l.0).whole a) || (parts_of vars r.0).whole a) l r beside)
-  node (Rule-F.Iff l r) beside = to (Rule-F.Iff l.0 r.0) beside (both (λ a. beq ((parts_of vars l.0).whole a) ((parts_of vars r.0).whole a)) l r beside)
-  node (Rule-F.Compare how l r) beside = to (Rule-F.Compare how l r) beside tt
+  node (Rule-F.And l r) beside = to (Rule-F.And l.0 r.0) beside (both (λ a. (parts_of vars features l.0).whole a && (parts_of vars features r.0).whole a) l r beside)
+  node (Rule-F.Or l r) beside = to (Rule-F.Or l.0 r.0) beside (both (λ a. (parts_of vars features l.0).whole a || (parts_of vars features r.0).whole a) l r beside)
+  node (Rule-F.Implies l r) beside = to (Rule-F.Implies l.0 r.0) beside (both (λ a. not ((parts_of vars features l.0).whole a) || (parts_of vars features r.0).whole a) l r beside)
+  node (Rule-F.Iff l r) beside = to (Rule-F.Iff l.0 r.0) beside (both (λ a. beq ((parts_of vars features l.0).whole a) ((parts_of vars features r.0).whole a)) l r beside)
+  node (Rule-F.Compare how l r) beside =
+      let size = group-length (parts_node vars features (Rule-F.Compare how l r)).whole [] beside in
+      to (Rule-F.Compare how l r) beside (omega arith, tt)
 
-  small : (rule : Rule) → IsSmall rule
+  pub small : (rule : Rule) → IsSmall rule
   small = ind-Rule IsSmall (λ x y is. subst (λ (z : Rule-F Rule). IsSmall (roll-Rule z)) is (node y))
 
+module _ (vars : List Var) where
   few-rules : (rows : Rows) (front rules : List Rule) → All (IsRule rows) rules → Few (8 + most_right_operands) (rules_groups vars rows front rules)
   few-rules rows front [] sound = tt
   few-rules rows front (rule ∷ rules) sound =
       let shallow = (All-head (IsRule rows) rule rules sound).shallow in
-      let own = few-more (6 + 0 + right_operands rule) (6 + most_right_operands) (rule_groups vars rule) (omega arith) (small rule []) in
+      let own = few-more (6 + 0 + right_operands rule) (6 + most_right_operands) (rule_groups vars rows.features rule) (omega arith) (small vars rows.features rule []) in
       few-append (8 + most_right_operands)
-      (map (λ g. g ++ model_function vars rows.groups front ∷ model_function vars rows.groups (front ++ rule ∷ []) ∷ []) (rule_groups vars rule))
+      (map (λ g. g ++ model_function vars rows front ∷ model_function vars rows (front ++ rule ∷ []) ∷ []) (rule_groups vars rows.features rule))
       (rules_groups vars rows (front ++ rule ∷ []) rules)
-      (few-with_two (6 + most_right_operands) (model_function vars rows.groups front) (model_function vars rows.groups (front ++ rule ∷ [])) (rule_groups vars rule) own)
+      (few-with_two (6 + most_right_operands) (model_function vars rows front) (model_function vars rows (front ++ rule ∷ [])) (rule_groups vars rows.features rule) own)
       (few-rules rows (front ++ rule ∷ []) rules (All-tail (IsRule rows) rule rules sound))
 
   few-rows : (groups : List GroupRow) → Few (8 + most_right_operands) (rows_groups vars groups)

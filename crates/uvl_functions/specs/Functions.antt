@@ -4,13 +4,19 @@ use Rattle.std.specs.List.{list_all}
 use Rattle.dd_store.specs.declared.row.Var.{Var}
 use Rattle.dd_store.specs.Size.{Function}
 use Rattle.uvl_model.specs.declared.rows.FeatureNo.{FeatureNo}
+use Rattle.uvl_model.specs.declared.rows.FeatureRow.{FeatureRow}
 use Rattle.uvl_model.specs.declared.rows.GroupRow.{GroupRow}
+use Rattle.uvl_model.specs.declared.rule.Cmp.{Cmp}
+use Rattle.uvl_model.specs.declared.rule.Number.{Number}
 use Rattle.uvl_model.specs.declared.rule.Rule.{Rule}
-use Rattle.uvl_model.specs.Check.{is_marked, marked_count, group_holds, rule_holds}
+use Rattle.uvl_model.specs.Amounts.{amount_of, rule_is_met}
+use Rattle.uvl_model.specs.Check.{is_marked, marked_count, group_holds}
+use Rattle.uvl_model.specs.Constraints.{comparison_of}
 use Rattle.uvl_model.specs.Names.{chosen_names}
 use Rattle.uvl_model.specs.Products.{Products}
 use Rattle.uvl_model.specs.Rows.{Rows}
 use Rattle.uvl_model.specs.Spelling.{numbered}
+use Rattle.uvl_semantics.specs.Holding.{compares}
 use Rattle.uvl_functions.specs.Variables.{marks_under}
 
 -- whether the features with a true variable are a product
@@ -61,10 +67,17 @@ root_function vars = is_chosen vars (numbered 0)
 abbrev pub tree_function : List Var → List GroupRow → Function
 tree_function vars groups a = root_function vars a && list_all (group_holds (marks_under vars a)) groups
 
--- a rule without comparisons holds
-abbrev pub rule_function : List Var → Rule → Function
-rule_function vars rule a = rule_holds (marks_under vars a) rule
+-- two numbers compare so, where the features have these rows
+abbrev pub comparison_function : List Var → List FeatureRow → Cmp → Number → Number → Function
+comparison_function vars features how left right a =
+    compares (comparison_of how)
+    (amount_of features (marks_under vars a) left).value (amount_of features (marks_under vars a) right).value
 
--- the root is chosen, and each of the groups and of the rules holds
-abbrev pub model_function : List Var → List GroupRow → List Rule → Function
-model_function vars groups rules a = tree_function vars groups a && list_all (rule_holds (marks_under vars a)) rules
+-- a rule holds
+abbrev pub rule_function : List Var → List FeatureRow → Rule → Function
+rule_function vars features rule a = rule_is_met features (marks_under vars a) rule
+
+-- the root is chosen, and each of the model's groups and of the rules holds
+abbrev pub model_function : List Var → Rows → List Rule → Function
+model_function vars rows rules a =
+    tree_function vars rows.groups a && list_all (rule_is_met rows.features (marks_under vars a)) rules

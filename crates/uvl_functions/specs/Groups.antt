@@ -2,6 +2,7 @@
 use Rattle.std.specs.Prelude.{List, [], ◌∷◌, ◌++◌, map}
 use Rattle.dd_store.specs.declared.row.Var.{Var}
 use Rattle.dd_store.specs.Size.{Function}
+use Rattle.uvl_model.specs.declared.rows.FeatureRow.{FeatureRow}
 use Rattle.uvl_model.specs.declared.rows.GroupRow.{GroupRow}
 use Rattle.uvl_model.specs.declared.rule.Rule.{Rule}
 use Rattle.uvl_model.specs.Rows.{Rows}
@@ -26,16 +27,16 @@ abbrev pub tree_groups : List Var → Rows → List (List Function)
 tree_groups vars rows = (root_function vars ∷ []) ∷ rows_groups vars rows.groups
 
 -- the groups of `compile_rule`: the parts of each subrule
-abbrev pub rule_groups : List Var → Rule → List (List Function)
-rule_groups vars rule = (parts_of vars rule).groups []
+abbrev pub rule_groups : List Var → List FeatureRow → Rule → List (List Function)
+rule_groups vars features rule = (parts_of vars features rule).groups []
 
 -- for each rule its groups, each with what the model says up to the rules in front of it, and up to it
 abbrev pub rules_groups : List Var → Rows → (front rules : List Rule) → List (List Function)
 rules_groups vars rows front [] = []
 rules_groups vars rows front (rule ∷ rules) =
     map (λ group.
-    group ++ model_function vars rows.groups front ∷ model_function vars rows.groups (front ++ rule ∷ []) ∷ [])
-    (rule_groups vars rule)
+    group ++ model_function vars rows front ∷ model_function vars rows (front ++ rule ∷ []) ∷ [])
+    (rule_groups vars rows.features rule)
     ++ rules_groups vars rows (front ++ rule ∷ []) rules
 
 -- the groups of `compile`: those of the tree, and those of the rules in their order

@@ -1,12 +1,13 @@
 -- The functions that the parts of a rule are, and which of them are wanted at a time.
-use Rattle.std.specs.Prelude.{not, ◌&&◌, ◌||◌, false, List, [], ◌∷◌, ◌++◌, map}
+use Rattle.std.specs.Prelude.{not, ◌&&◌, ◌||◌, List, [], ◌∷◌, ◌++◌, map}
 use Rattle.std.specs.Bool.{beq}
 use Rattle.dd_store.specs.declared.row.Var.{Var}
 use Rattle.dd_store.specs.Size.{Function}
+use Rattle.uvl_model.specs.declared.rows.FeatureRow.{FeatureRow}
 use Rattle.uvl_model.specs.declared.rule.Rule.{Rule}
 use Rattle.uvl_model.specs.declared.rule.Rule.TheOpen.{Rule-F}
 use Rattle.uvl_model.specs.declared.rule.Rule.TheFolds.{fold-Rule}
-use Rattle.uvl_functions.specs.Functions.{is_chosen}
+use Rattle.uvl_functions.specs.Functions.{comparison_function, is_chosen}
 
 -- the function that is true where another is not
 abbrev pub opposite : Function → Function
@@ -33,20 +34,24 @@ operator whole left right =
     }
 
 -- a node of a rule, where the parts stand for each operand
-abbrev pub parts_node : List Var → Rule-F Parts → Parts
-parts_node vars (Rule-F.Feature f) =
+abbrev pub parts_node : List Var → List FeatureRow → Rule-F Parts → Parts
+parts_node vars features (Rule-F.Feature f) =
     record { whole = is_chosen vars f; groups = λ beside. group_of (is_chosen vars f) [] beside ∷ [] }
-parts_node vars (Rule-F.Not p) =
+parts_node vars features (Rule-F.Not p) =
     record {
       whole = opposite p.whole;
       groups = λ beside. group_of (opposite p.whole) (p.whole ∷ []) beside ∷ p.groups beside;
     }
-parts_node vars (Rule-F.And p q) = operator (λ a. p.whole a && q.whole a) p q
-parts_node vars (Rule-F.Or p q) = operator (λ a. p.whole a || q.whole a) p q
-parts_node vars (Rule-F.Implies p q) = operator (λ a. not (p.whole a) || q.whole a) p q
-parts_node vars (Rule-F.Iff p q) = operator (λ a. beq (p.whole a) (q.whole a)) p q
-parts_node vars (Rule-F.Compare how left right) = record { whole = λ a. false; groups = λ beside. [] }
+parts_node vars features (Rule-F.And p q) = operator (λ a. p.whole a && q.whole a) p q
+parts_node vars features (Rule-F.Or p q) = operator (λ a. p.whole a || q.whole a) p q
+parts_node vars features (Rule-F.Implies p q) = operator (λ a. not (p.whole a) || q.whole a) p q
+parts_node vars features (Rule-F.Iff p q) = operator (λ a. beq (p.whole a) (q.whole a)) p q
+parts_node vars features (Rule-F.Compare how left right) =
+    record {
+      whole = comparison_function vars features how left right;
+      groups = λ beside. group_of (comparison_function vars features how left right) [] beside ∷ [];
+    }
 
--- the parts of a rule without comparisons
-abbrev pub parts_of : List Var → Rule → Parts
-parts_of vars = fold-Rule Parts (parts_node vars)
+-- the parts of a rule, where the features have these rows
+abbrev pub parts_of : List Var → List FeatureRow → Rule → Parts
+parts_of vars features = fold-Rule Parts (parts_node vars features)

@@ -8,6 +8,7 @@ use Rattle.dd_store.specs.Handles.{GainsHandle}
 use Rattle.dd_store.specs.Size.{Function}
 use Rattle.dd_store.specs.Table.{Table, value_of}
 use Rattle.dd_store.proofs.SizeLemmas.{In}
+use Rattle.uvl_model.specs.declared.rows.FeatureRow.{FeatureRow}
 use Rattle.uvl_model.specs.declared.rule.Rule.{Rule}
 use Rattle.uvl_model.specs.declared.rule.Rule.TheOpen.{Rule-F}
 use Rattle.uvl_model.specs.declared.rule.Rule.TheFolds.{fold-roll-Rule, map-Rule}
@@ -27,119 +28,119 @@ use Rattle.uvl_rule.proofs.PartLemmas.{function-of}
 use Rattle.uvl_functions.proofs.ShortLemmas.{AreCovered, cause-covered, told-behind_member}
 
 -- the node is an operator with these operands
-pub record IsJoined (vars : List Var) (c : Connective) (node l r : Rule) : Type 0 where
+pub record IsJoined (vars : List Var) (features : List FeatureRow) (c : Connective) (node l r : Rule) : Type 0 where
   pub left : left_operand node ≡ Some l
-  pub function : rule_function vars node ≡ connection c (rule_function vars l) (rule_function vars r)
-  pub above : groups_above vars node ≡ groups_beside c vars (rule_function vars l) r
+  pub function : rule_function vars features node ≡ connection c (rule_function vars features l) (rule_function vars features r)
+  pub above : groups_above vars features node ≡ groups_beside c vars features (rule_function vars features l) r
   pub nodes : nodes_of node ≡ 1 + nodes_of l + nodes_of r
 
-module _ (vars : List Var) (l r : Rule) where
-  pub joined-And : IsJoined vars And (rule.And l r) l r
+module _ (vars : List Var) (features : List FeatureRow) (l r : Rule) where
+  pub joined-And : IsJoined vars features And (rule.And l r) l r
   joined-And = record {
     left = ap left_node (rule.outs-And l r);
-    function = ap (rule_function vars) (sym (rule.rolls-And l r)) ∙ function-of vars (Rule-F.And l r);
-    above = ap (above_node vars) (rule.outs-And l r);
+    function = ap (rule_function vars features) (sym (rule.rolls-And l r)) ∙ function-of vars features (Rule-F.And l r);
+    above = ap (above_node vars features) (rule.outs-And l r);
     nodes = nodes-And l r;
   }
 
-  pub joined-Or : IsJoined vars Or (rule.Or l r) l r
+  pub joined-Or : IsJoined vars features Or (rule.Or l r) l r
   joined-Or = record {
     left = ap left_node (rule.outs-Or l r);
-    function = ap (rule_function vars) (sym (rule.rolls-Or l r)) ∙ function-of vars (Rule-F.Or l r);
-    above = ap (above_node vars) (rule.outs-Or l r);
+    function = ap (rule_function vars features) (sym (rule.rolls-Or l r)) ∙ function-of vars features (Rule-F.Or l r);
+    above = ap (above_node vars features) (rule.outs-Or l r);
     nodes = nodes-Or l r;
   }
 
-  pub joined-Implies : IsJoined vars Implies (rule.Implies l r) l r
+  pub joined-Implies : IsJoined vars features Implies (rule.Implies l r) l r
   joined-Implies = record {
     left = ap left_node (rule.outs-Implies l r);
-    function = ap (rule_function vars) (sym (rule.rolls-Implies l r)) ∙ function-of vars (Rule-F.Implies l r);
-    above = ap (above_node vars) (rule.outs-Implies l r);
+    function = ap (rule_function vars features) (sym (rule.rolls-Implies l r)) ∙ function-of vars features (Rule-F.Implies l r);
+    above = ap (above_node vars features) (rule.outs-Implies l r);
     nodes = nodes-Implies l r;
   }
 
-  pub joined-Iff : IsJoined vars Iff (rule.Iff l r) l r
+  pub joined-Iff : IsJoined vars features Iff (rule.Iff l r) l r
   joined-Iff = record {
     left = ap left_node (rule.outs-Iff l r);
-    function = ap (rule_function vars) (sym (rule.rolls-Iff l r)) ∙ function-of vars (Rule-F.Iff l r);
-    above = ap (above_node vars) (rule.outs-Iff l r);
+    function = ap (rule_function vars features) (sym (rule.rolls-Iff l r)) ∙ function-of vars features (Rule-F.Iff l r);
+    above = ap (above_node vars features) (rule.outs-Iff l r);
     nodes = nodes-Iff l r;
   }
 
 -- the value is that of the node's left operand
-abbrev pub IsLeft : List Var → Rule → Function → Type 0
-IsLeft vars node f = (left : Rule) × (left_operand node ≡ Some left) × (f ≡ rule_function vars left)
+abbrev pub IsLeft : List Var → List FeatureRow → Rule → Function → Type 0
+IsLeft vars features node f = (left : Rule) × (left_operand node ≡ Some left) × (f ≡ rule_function vars features left)
 
-left-value : (vars : List Var) (node l : Rule) (f : Function) → left_operand node ≡ Some l → IsLeft vars node f → f ≡ rule_function vars l
-left-value vars node l f is (left, of, value) = let same : left ≡ l = cc in value ∙ ap (rule_function vars) same
+left-value : (vars : List Var) (features : List FeatureRow) (node l : Rule) (f : Function) → left_operand node ≡ Some l → IsLeft vars features node f → f ≡ rule_function vars features l
+left-value vars features node l f is (left, of, value) = let same : left ≡ l = cc in value ∙ ap (rule_function vars features) same
 
-module _ (vars : List Var) (c : Connective) (node l r r' : Rule) (joined : IsJoined vars c node l r) (same : r' ≡ r) (s t : Table) (made : ℕ)
-    (left : IsLeft vars node (value_at s made)) (result : Result ℕ Refusal) where
-  pub climbed-told : IfOk result (λ h. value_at t h ≡ connection c (value_at s made) (rule_function vars r')) → IfOk result (λ h. value_at t h ≡ rule_function vars node)
+module _ (vars : List Var) (features : List FeatureRow) (c : Connective) (node l r r' : Rule) (joined : IsJoined vars features c node l r) (same : r' ≡ r) (s t : Table) (made : ℕ)
+    (left : IsLeft vars features node (value_at s made)) (result : Result ℕ Refusal) where
+  pub climbed-told : IfOk result (λ h. value_at t h ≡ connection c (value_at s made) (rule_function vars features r')) → IfOk result (λ h. value_at t h ≡ rule_function vars features node)
   climbed-told =
       subst (λ (f : Function). IfOk result (λ h. value_at t h ≡ f))
-      (ap (λ (f : Function). connection c f (rule_function vars r')) (left-value vars node l (value_at s made) joined.left left)
-      ∙ ap (λ (q : Rule). connection c (rule_function vars l) (rule_function vars q)) same ∙ sym joined.function)
+      (ap (λ (f : Function). connection c f (rule_function vars features r')) (left-value vars features node l (value_at s made) joined.left left)
+      ∙ ap (λ (q : Rule). connection c (rule_function vars features l) (rule_function vars features q)) same ∙ sym joined.function)
 
-  pub climbed-cause : IfErr result (IsShortFor s (groups_beside c vars (value_at s made) r')) → IfErr result (IsShortFor s (groups_above vars node))
+  pub climbed-cause : IfErr result (IsShortFor s (groups_beside c vars features (value_at s made) r')) → IfErr result (IsShortFor s (groups_above vars features node))
   climbed-cause =
       subst (λ (gs : List (List Function)). IfErr result (IsShortFor s gs))
-      (ap (λ (f : Function). groups_beside c vars f r') (left-value vars node l (value_at s made) joined.left left)
-      ∙ ap (λ (q : Rule). groups_beside c vars (rule_function vars l) q) same ∙ sym joined.above)
+      (ap (λ (f : Function). groups_beside c vars features f r') (left-value vars features node l (value_at s made) joined.left left)
+      ∙ ap (λ (q : Rule). groups_beside c vars features (rule_function vars features l) q) same ∙ sym joined.above)
 
 -- the opposite of its operand
-module _ (vars : List Var) (node p : Rule) (is : node ≡ rule.Not p) (s t : Table) (made : ℕ) (left : IsLeft vars node (value_at s made)) (result : Result ℕ Refusal) where
-  operand : value_at s made ≡ rule_function vars p
-  operand = left-value vars node p (value_at s made) (ap left_operand is ∙ ap left_node (rule.outs-Not p)) left
+module _ (vars : List Var) (features : List FeatureRow) (node p : Rule) (is : node ≡ rule.Not p) (s t : Table) (made : ℕ) (left : IsLeft vars features node (value_at s made)) (result : Result ℕ Refusal) where
+  operand : value_at s made ≡ rule_function vars features p
+  operand = left-value vars features node p (value_at s made) (ap left_operand is ∙ ap left_node (rule.outs-Not p)) left
 
-  pub negated-told : IfOk result (λ h. value_at t h ≡ opposite (value_at s made)) → IfOk result (λ h. value_at t h ≡ rule_function vars node)
+  pub negated-told : IfOk result (λ h. value_at t h ≡ opposite (value_at s made)) → IfOk result (λ h. value_at t h ≡ rule_function vars features node)
   negated-told =
       subst (λ (f : Function). IfOk result (λ h. value_at t h ≡ f))
-      (ap opposite operand ∙ sym (ap (rule_function vars) (is ∙ sym (rule.rolls-Not p)) ∙ function-of vars (Rule-F.Not p)))
+      (ap opposite operand ∙ sym (ap (rule_function vars features) (is ∙ sym (rule.rolls-Not p)) ∙ function-of vars features (Rule-F.Not p)))
 
-  pub negated-cause : IfErr result (IsShortFor s (group_of (opposite (value_at s made)) (value_at s made ∷ []) [] ∷ [])) → IfErr result (IsShortFor s (groups_above vars node))
+  pub negated-cause : IfErr result (IsShortFor s (group_of (opposite (value_at s made)) (value_at s made ∷ []) [] ∷ [])) → IfErr result (IsShortFor s (groups_above vars features node))
   negated-cause =
       subst (λ (gs : List (List Function)). IfErr result (IsShortFor s gs))
-      (ap (λ (f : Function). group_of (opposite f) (f ∷ []) [] ∷ []) operand ∙ sym (ap (groups_above vars) is ∙ ap (above_node vars) (rule.outs-Not p)))
+      (ap (λ (f : Function). group_of (opposite f) (f ∷ []) [] ∷ []) operand ∙ sym (ap (groups_above vars features) is ∙ ap (above_node vars features) (rule.outs-Not p)))
 
 -- among more groups
 pub more-covered : (order : List Var) (held : List Function) (gs hs : List (List Function)) → ((g : List Function) → In g gs → In g hs) → AreCovered order held held gs hs
 more-covered order held gs hs more g i = (g, more g i, λ f h. inl h, λ f h. inr (inr (inl h)))
 
 -- an operator's groups while its left operand is held: those of the right one are among them
-pub right-cause : (vars : List Var) (c : Connective) (f : Function) (r : Rule) (t : Table) (refusal : Refusal) → IsShortFor t (rule_groups vars r) refusal
-    → IsShortFor t (groups_beside c vars f r) refusal
-right-cause vars c f r t refusal =
-    cause-covered t (rule_groups vars r) (groups_beside c vars f r) refusal
-    (λ held. more-covered t.order held (rule_groups vars r) (groups_beside c vars f r) (λ g i. inr i))
+pub right-cause : (vars : List Var) (features : List FeatureRow) (c : Connective) (f : Function) (r : Rule) (t : Table) (refusal : Refusal) → IsShortFor t (rule_groups vars features r) refusal
+    → IsShortFor t (groups_beside c vars features f r) refusal
+right-cause vars features c f r t refusal =
+    cause-covered t (rule_groups vars features r) (groups_beside c vars features f r) refusal
+    (λ held. more-covered t.order held (rule_groups vars features r) (groups_beside c vars features f r) (λ g i. inr i))
 
-first-cause : (vars : List Var) (c : Connective) (f : Function) (r : Rule) (t : Table) (result : Result ℕ Refusal)
-    → IfErr result (IsShortFor t (connection_group c f (rule_function vars r) ∷ [])) → IfErr result (IsShortFor t (groups_beside c vars f r))
-first-cause vars c f r t (Ok h) cause = tt
-first-cause vars c f r t (Err refusal) cause =
-    cause-covered t (connection_group c f (rule_function vars r) ∷ []) (groups_beside c vars f r) refusal
-    (λ held. more-covered t.order held (connection_group c f (rule_function vars r) ∷ []) (groups_beside c vars f r) among) cause
+first-cause : (vars : List Var) (features : List FeatureRow) (c : Connective) (f : Function) (r : Rule) (t : Table) (result : Result ℕ Refusal)
+    → IfErr result (IsShortFor t (connection_group c f (rule_function vars features r) ∷ [])) → IfErr result (IsShortFor t (groups_beside c vars features f r))
+first-cause vars features c f r t (Ok h) cause = tt
+first-cause vars features c f r t (Err refusal) cause =
+    cause-covered t (connection_group c f (rule_function vars features r) ∷ []) (groups_beside c vars features f r) refusal
+    (λ held. more-covered t.order held (connection_group c f (rule_function vars features r) ∷ []) (groups_beside c vars features f r) among) cause
   where
-    among : (g : List Function) → In g (connection_group c f (rule_function vars r) ∷ []) → In g (groups_beside c vars f r)
+    among : (g : List Function) → In g (connection_group c f (rule_function vars features r) ∷ []) → In g (groups_beside c vars features f r)
     among g (inl is) = inl is
     among g (inr none) = absurd none
 
 -- the right operand is made, and both are joined
-module _ (vars : List Var) (c : Connective) (r : Rule) (s t u : Table) (made h : ℕ) (result : Result ℕ Refusal) (stays : value_at t made ≡ value_at s made)
-    (right : (x : ℕ → Bool) → value_of t h x ≡ rule_function vars r x) where
-  right-is : value_at t h ≡ rule_function vars r
+module _ (vars : List Var) (features : List FeatureRow) (c : Connective) (r : Rule) (s t u : Table) (made h : ℕ) (result : Result ℕ Refusal) (stays : value_at t made ≡ value_at s made)
+    (right : (x : ℕ → Bool) → value_of t h x ≡ rule_function vars features r x) where
+  right-is : value_at t h ≡ rule_function vars features r
   right-is = λ i x. right x i
 
-  pub both-told : IfOk result (λ k. value_at u k ≡ connection c (value_at t made) (value_at t h)) → IfOk result (λ k. value_at u k ≡ connection c (value_at s made) (rule_function vars r))
+  pub both-told : IfOk result (λ k. value_at u k ≡ connection c (value_at t made) (value_at t h)) → IfOk result (λ k. value_at u k ≡ connection c (value_at s made) (rule_function vars features r))
   both-told =
       subst (λ (f : Function). IfOk result (λ k. value_at u k ≡ f))
       (ap (λ (f : Function). connection c f (value_at t h)) stays ∙ ap (λ (g : Function). connection c (value_at s made) g) right-is)
 
   pub both-cause : Keeps s t → GainsHandle s t h → IfErr result (IsShortFor t (connection_group c (value_at t made) (value_at t h) ∷ []))
-      → IfErr result (IsShortFor s (groups_beside c vars (value_at s made) r))
+      → IfErr result (IsShortFor s (groups_beside c vars features (value_at s made) r))
   both-cause keeps gain cause =
-      first-cause vars c (value_at s made) r s result
-      (told-behind_member s t h (connection_group c (value_at s made) (rule_function vars r)) result keeps gain (inr (inr (inl (sym right-is))))
+      first-cause vars features c (value_at s made) r s result
+      (told-behind_member s t h (connection_group c (value_at s made) (rule_function vars features r)) result keeps gain (inr (inr (inl (sym right-is))))
       (subst (λ (f : Function). IfErr result (IsShortFor t (connection_group c (value_at s made) f ∷ []))) right-is
       (subst (λ (f : Function). IfErr result (IsShortFor t (connection_group c f (value_at t h) ∷ []))) stays cause)))
 

@@ -1,5 +1,5 @@
 -- A rule as a function says what its constraint says of the set of features whose variables are true.
-use Rattle.std.proofs.Common.{◌≡◌, ℕ, Bool, true, ◌&&◌, List, [], ◌∷◌, Result, Ok, Err, IfOk, ap, sym, ◌∙◌}
+use Rattle.std.proofs.Common.{◌≡◌, ℕ, Bool, List, [], ◌∷◌, Result, Ok, Err, IfOk, sym, ◌∙◌}
 use Rattle.std.specs.List.{All}
 use Rattle.std.proofs.Math.Bool.{and-true}
 use Rattle.std.proofs.lemmas.List.Elements.{All-cons, All-nil, All-weaker}
@@ -10,16 +10,16 @@ use Rattle.uvl_functions.specs.Functions.{rule_function}
 use Rattle.uvl_functions.specs.Variables.{marks_under}
 use Rattle.uvl_model.specs.declared.rule.Number.{Number}
 use Rattle.uvl_model.specs.declared.rule.Rule.{Rule}
-use Rattle.uvl_model.specs.Check.{rule_holds}
-use Rattle.uvl_model.specs.Comparisons.{has_no_comparison}
+use Rattle.uvl_model.specs.Amounts.{rule_is_met}
 use Rattle.uvl_model.specs.Constraints.{constraint_of}
 use Rattle.uvl_model.specs.Heads.{heads_of_rows}
 use Rattle.uvl_model.specs.Marks.{StandFor}
 use Rattle.uvl_model.specs.Names.{feature_names}
 use Rattle.uvl_model.specs.Rows.{Rows}
 use Rattle.uvl_model.specs.Rules.{IsNumber, IsRead, IsRule, Read, numbers_of, reads_of}
+use Rattle.uvl_model.specs.Sound.{IsSound}
+use Rattle.uvl_model.proofs.Amounts.{rules_met}
 use Rattle.uvl_model.proofs.Marks.{stand_agree}
-use Rattle.uvl_model.proofs.Truths.{rules_told}
 use Rattle.uvl_semantics.specs.Holding.{holds_by}
 
 -- the model with this rule alone
@@ -47,17 +47,27 @@ rule-alone rows rule is = record {
 one-rule : (rows : Rows) (rule : Rule) → IsRule rows rule → All (IsRule (with-rule rows rule)) (rule ∷ [])
 one-rule rows rule is = All-cons (IsRule (with-rule rows rule)) rule [] (rule-alone rows rule is) (All-nil (IsRule (with-rule rows rule)))
 
-rule-means : (rows : Rows) (rule : Rule) → IsRule rows rule → has_no_comparison rule ≡ true → (marks : List Bool) (set : List (List ℕ))
-    → StandFor (feature_names rows) marks set → rule_holds marks rule ≡ holds_by (heads_of_rows rows) (constraint_of (feature_names rows) rule) set
-rule-means rows rule is none marks set stand =
-    let told = rules_told (with-rule rows rule) marks set (one-rule rows rule is) (ap (λ (b : Bool). b && true) none)
-    (stand_agree (feature_names rows) marks set stand) in
-    sym (and-true (rule_holds marks rule)) ∙ told ∙ and-true (holds_by (heads_of_rows rows) (constraint_of (feature_names rows) rule) set)
+-- so is the model with this rule alone
+sound-alone : (rows : Rows) (rule : Rule) → IsSound rows → IsRule rows rule → IsSound (with-rule rows rule)
+sound-alone rows rule sound is = record {
+  tree = sound.tree;
+  spelled = record { features = sound.spelled.features; groups = sound.spelled.groups };
+  within = sound.within;
+  attributes = sound.attributes;
+  rules = one-rule rows rule is;
+}
+
+rule-means : (rows : Rows) (rule : Rule) → IsSound rows → IsRule rows rule → (marks : List Bool) (set : List (List ℕ))
+    → StandFor (feature_names rows) marks set
+    → rule_is_met rows.features marks rule ≡ holds_by (heads_of_rows rows) (constraint_of (feature_names rows) rule) set
+rule-means rows rule sound is marks set stand =
+    let told = rules_met (with-rule rows rule) (sound-alone rows rule sound is) marks set (stand_agree (feature_names rows) marks set stand) in
+    sym (and-true (rule_is_met rows.features marks rule)) ∙ told ∙ and-true (holds_by (heads_of_rows rows) (constraint_of (feature_names rows) rule) set)
 
 -- the same of a call's result
-pub told-meaning : (rows : Rows) (vars : List Var) (rule : Rule) (t : Table) (result : Result ℕ Refusal) → IsRule rows rule → has_no_comparison rule ≡ true
-    → IfOk result (λ h. (a : ℕ → Bool) → value_of t h a ≡ rule_function vars rule a)
+pub told-meaning : (rows : Rows) (vars : List Var) (rule : Rule) (t : Table) (result : Result ℕ Refusal) → IsSound rows → IsRule rows rule
+    → IfOk result (λ h. (a : ℕ → Bool) → value_of t h a ≡ rule_function vars rows.features rule a)
     → IfOk result (λ h. (a : ℕ → Bool) (set : List (List ℕ)) → StandFor (feature_names rows) (marks_under vars a) set →
     value_of t h a ≡ holds_by (heads_of_rows rows) (constraint_of (feature_names rows) rule) set)
-told-meaning rows vars rule t (Ok h) is none value = λ a set stand. value a ∙ rule-means rows rule is none (marks_under vars a) set stand
-told-meaning rows vars rule t (Err r) is none value = tt
+told-meaning rows vars rule t (Ok h) sound is value = λ a set stand. value a ∙ rule-means rows rule sound is (marks_under vars a) set stand
+told-meaning rows vars rule t (Err r) sound is value = tt

@@ -9,6 +9,7 @@ use Rattle.dd_store.specs.declared.row.Var.{Var}
 use Rattle.dd_store.specs.Size.{Function}
 use Rattle.uvl_functions.specs.Functions.{rule_function}
 use Rattle.uvl_functions.specs.RuleParts.{opposite}
+use Rattle.uvl_model.specs.declared.rows.FeatureRow.{FeatureRow}
 use Rattle.uvl_model.specs.declared.rule.Rule.{Rule}
 use Rattle.uvl_model.specs.declared.rule.Rule.TheOpen.{Rule-F}
 use Rattle.uvl_model.specs.declared.rule.Rule.TheFolds.{fold-roll-Rule, map-Rule}
@@ -50,40 +51,40 @@ swapped Or is false q r = or-swapped q r
 swapped Implies is p q r = absurd (false≢true is)
 swapped Iff is p q r = absurd (false≢true is)
 
-module _ (vars : List Var) where
+module _ (vars : List Var) (features : List FeatureRow) where
   -- a node by its operands
   joined-node : (x : Rule-F Rule) (left : Rule) (c : Connective) → left_node x ≡ Some left → connective_node x ≡ Some c
-      → rule_function vars (roll-Rule x) ≡ connection c (rule_function vars left) (function_or_no vars (right_node x))
+      → rule_function vars features (roll-Rule x) ≡ connection c (rule_function vars features left) (function_or_no vars features (right_node x))
   joined-node (Rule-F.Feature f) left c of is = absurd (cc)
   joined-node (Rule-F.Not p) left c of is = absurd (cc)
   joined-node (Rule-F.And l r) left c of is =
       let one : And ≡ c = cc in
       let two : l ≡ left = cc in
-      function-of vars (Rule-F.And l r) ∙ ap (λ (k : Connective). connection k (rule_function vars l) (rule_function vars r)) one
-      ∙ ap (λ (q : Rule). connection c (rule_function vars q) (rule_function vars r)) two
+      function-of vars features (Rule-F.And l r) ∙ ap (λ (k : Connective). connection k (rule_function vars features l) (rule_function vars features r)) one
+      ∙ ap (λ (q : Rule). connection c (rule_function vars features q) (rule_function vars features r)) two
   joined-node (Rule-F.Or l r) left c of is =
       let one : Or ≡ c = cc in
       let two : l ≡ left = cc in
-      function-of vars (Rule-F.Or l r) ∙ ap (λ (k : Connective). connection k (rule_function vars l) (rule_function vars r)) one
-      ∙ ap (λ (q : Rule). connection c (rule_function vars q) (rule_function vars r)) two
+      function-of vars features (Rule-F.Or l r) ∙ ap (λ (k : Connective). connection k (rule_function vars features l) (rule_function vars features r)) one
+      ∙ ap (λ (q : Rule). connection c (rule_function vars features q) (rule_function vars features r)) two
   joined-node (Rule-F.Implies l r) left c of is =
       let one : Implies ≡ c = cc in
       let two : l ≡ left = cc in
-      function-of vars (Rule-F.Implies l r) ∙ ap (λ (k : Connective). connection k (rule_function vars l) (rule_function vars r)) one
-      ∙ ap (λ (q : Rule). connection c (rule_function vars q) (rule_function vars r)) two
+      function-of vars features (Rule-F.Implies l r) ∙ ap (λ (k : Connective). connection k (rule_function vars features l) (rule_function vars features r)) one
+      ∙ ap (λ (q : Rule). connection c (rule_function vars features q) (rule_function vars features r)) two
   joined-node (Rule-F.Iff l r) left c of is =
       let one : Iff ≡ c = cc in
       let two : l ≡ left = cc in
-      function-of vars (Rule-F.Iff l r) ∙ ap (λ (k : Connective). connection k (rule_function vars l) (rule_function vars r)) one
-      ∙ ap (λ (q : Rule). connection c (rule_function vars q) (rule_function vars r)) two
+      function-of vars features (Rule-F.Iff l r) ∙ ap (λ (k : Connective). connection k (rule_function vars features l) (rule_function vars features r)) one
+      ∙ ap (λ (q : Rule). connection c (rule_function vars features q) (rule_function vars features r)) two
   joined-node (Rule-F.Compare how l r) left c of is = absurd (cc)
 
   opposite-node : (x : Rule-F Rule) (left : Rule) → left_node x ≡ Some left → connective_node x ≡ None
-      → rule_function vars (roll-Rule x) ≡ opposite (rule_function vars left)
+      → rule_function vars features (roll-Rule x) ≡ opposite (rule_function vars features left)
   opposite-node (Rule-F.Feature f) left of is = absurd (cc)
   opposite-node (Rule-F.Not p) left of is =
       let two : p ≡ left = cc in
-      function-of vars (Rule-F.Not p) ∙ ap (λ (q : Rule). opposite (rule_function vars q)) two
+      function-of vars features (Rule-F.Not p) ∙ ap (λ (q : Rule). opposite (rule_function vars features q)) two
   opposite-node (Rule-F.And l r) left of is = absurd (cc)
   opposite-node (Rule-F.Or l r) left of is = absurd (cc)
   opposite-node (Rule-F.Implies l r) left of is = absurd (cc)
@@ -91,33 +92,33 @@ module _ (vars : List Var) where
   opposite-node (Rule-F.Compare how l r) left of is = absurd (cc)
 
   joined : (node left : Rule) (c : Connective) → left_operand node ≡ Some left → connective_of node ≡ Some c
-      → rule_function vars node ≡ connection c (rule_function vars left) (function_or_no vars (right_operand node))
-  joined node left c of is = ap (rule_function vars) (sym (roll-out-Rule node)) ∙ joined-node (out-Rule node) left c of is
+      → rule_function vars features node ≡ connection c (rule_function vars features left) (function_or_no vars features (right_operand node))
+  joined node left c of is = ap (rule_function vars features) (sym (roll-out-Rule node)) ∙ joined-node (out-Rule node) left c of is
 
   -- one node above a part
   one-joined : (node part top : Rule) (c : Connective) → connective_of node ≡ Some c → IsSpine (node ∷ []) part top
-      → rule_function vars top ≡ connection c (rule_function vars part) (gathered c vars (node ∷ []))
+      → rule_function vars features top ≡ connection c (rule_function vars features part) (gathered c vars features (node ∷ []))
   one-joined node part top c is (same, (left, of, below)) =
-      ap (rule_function vars) (sym same) ∙ joined node left c of is
-      ∙ ap (λ (q : Rule). connection c (rule_function vars q) (function_or_no vars (right_operand node))) (sym below)
+      ap (rule_function vars features) (sym same) ∙ joined node left c of is
+      ∙ ap (λ (q : Rule). connection c (rule_function vars features q) (function_or_no vars features (right_operand node))) (sym below)
 
   -- a chain above a part
   chain-joined : (c : Connective) → regroups c ≡ true → (node : Rule) (nodes : List Rule) (part top : Rule)
       → All (λ (n : Rule). connective_of n ≡ Some c) (node ∷ nodes) → IsSpine (node ∷ nodes) part top
-      → rule_function vars top ≡ connection c (rule_function vars part) (gathered c vars (node ∷ nodes))
+      → rule_function vars features top ≡ connection c (rule_function vars features part) (gathered c vars features (node ∷ nodes))
   chain-joined c is node [] part top all spine = one-joined node part top c (All-head (λ (n : Rule). connective_of n ≡ Some c) node [] all) spine
   chain-joined c is node (next ∷ nodes) part top all (same, (left, of, rest)) =
-      let right = function_or_no vars (right_operand node) in
-      let others = gathered c vars (next ∷ nodes) in
+      let right = function_or_no vars features (right_operand node) in
+      let others = gathered c vars features (next ∷ nodes) in
       let P : Rule → Type 0 = λ n. connective_of n ≡ Some c in
-      ap (rule_function vars) (sym same) ∙ joined node left c of (All-head P node (next ∷ nodes) all)
+      ap (rule_function vars features) (sym same) ∙ joined node left c of (All-head P node (next ∷ nodes) all)
       ∙ ap (λ (f : Function). connection c f right) (chain-joined c is next nodes part left (All-tail P node (next ∷ nodes) all) rest)
-      ∙ (λ i a. swapped c is (rule_function vars part a) (others a) (right a) i)
+      ∙ (λ i a. swapped c is (rule_function vars features part a) (others a) (right a) i)
 
   -- a run above a part: an operator and what it makes of the right operands, or the opposite
   pub run-joined : (run : List (Bor Rule)) (first : Bor Rule) (part top : Rule) (c : Connective) → first ≡ get_or run 0 first → 0 < length run
       → connective_of first.now ≡ Some c → IsRun (rules_at run) → IsSpine (rules_at run) part top
-      → rule_function vars top ≡ connection c (rule_function vars part) (gathered c vars (rules_at run))
+      → rule_function vars features top ≡ connection c (rule_function vars features part) (gathered c vars features (rules_at run))
   run-joined [] first part top c at some is run spine = absurd (omega arith)
   run-joined (node ∷ []) first part top c at some is run spine =
       one-joined node.now part top c (subst (λ (n : Bor Rule). connective_of n.now ≡ Some c) at is) spine
@@ -130,12 +131,12 @@ module _ (vars : List Var) where
       (subst (λ (k : Connective). All (λ (n : Rule). connective_of n ≡ Some k) (rules_at (node ∷ next ∷ nodes))) same all) spine
 
   pub run-opposite : (run : List (Bor Rule)) (first : Bor Rule) (part top : Rule) → first ≡ get_or run 0 first → 0 < length run
-      → connective_of first.now ≡ None → IsRun (rules_at run) → IsSpine (rules_at run) part top → rule_function vars top ≡ opposite (rule_function vars part)
+      → connective_of first.now ≡ None → IsRun (rules_at run) → IsSpine (rules_at run) part top → rule_function vars features top ≡ opposite (rule_function vars features part)
   run-opposite [] first part top at some is run spine = absurd (omega arith)
   run-opposite (node ∷ []) first part top at some is run (same, (left, of, below)) =
       let here = subst (λ (n : Bor Rule). connective_of n.now ≡ None) at is in
-      ap (rule_function vars) (sym same ∙ sym (roll-out-Rule node.now)) ∙ opposite-node (out-Rule node.now) left of here
-      ∙ ap (λ (q : Rule). opposite (rule_function vars q)) (sym below)
+      ap (rule_function vars features) (sym same ∙ sym (roll-out-Rule node.now)) ∙ opposite-node (out-Rule node.now) left of here
+      ∙ ap (λ (q : Rule). opposite (rule_function vars features q)) (sym below)
   run-opposite (node ∷ next ∷ nodes) first part top at some is (inl one) spine = absurd (omega arith)
   run-opposite (node ∷ next ∷ nodes) first part top at some is (inr (d, groups, all)) spine =
       let here = subst (λ (n : Bor Rule). connective_of n.now ≡ None) at is in
@@ -144,21 +145,21 @@ module _ (vars : List Var) where
 
   -- right operands in two parts
   gathered-parts : (c : Connective) → regroups c ≡ true → (x : Rule) (xs : List Rule) (y : Rule) (ys : List Rule)
-      → gathered c vars ((x ∷ xs) ++ (y ∷ ys)) ≡ connection c (gathered c vars (x ∷ xs)) (gathered c vars (y ∷ ys))
+      → gathered c vars features ((x ∷ xs) ++ (y ∷ ys)) ≡ connection c (gathered c vars features (x ∷ xs)) (gathered c vars features (y ∷ ys))
   gathered-parts c is x [] y ys = refl
   gathered-parts c is x (z ∷ zs) y ys =
-      let first = function_or_no vars (right_operand x) in
-      let front = gathered c vars (z ∷ zs) in
-      let back = gathered c vars (y ∷ ys) in
+      let first = function_or_no vars features (right_operand x) in
+      let front = gathered c vars features (z ∷ zs) in
+      let back = gathered c vars features (y ∷ ys) in
       ap (λ (f : Function). connection c first f) (gathered-parts c is z zs y ys) ∙ (λ i a. sym (grouped c is (first a) (front a) (back a)) i)
 
   pub gathered-append : (c : Connective) → regroups c ≡ true → (run front back : List (Bor Rule)) → run ≡ front ++ back → 0 < length front → 0 < length back
-      → connection c (gathered c vars (rules_at front)) (gathered c vars (rules_at back)) ≡ gathered c vars (rules_at run)
+      → connection c (gathered c vars features (rules_at front)) (gathered c vars features (rules_at back)) ≡ gathered c vars features (rules_at run)
   gathered-append c is run [] back parts some more = absurd (omega arith)
   gathered-append c is run (x ∷ xs) [] parts some more = absurd (omega arith)
   gathered-append c is run (x ∷ xs) (y ∷ ys) parts some more =
-      sym (ap (λ (nodes : List (Bor Rule)). gathered c vars (rules_at nodes)) parts
-      ∙ ap (gathered c vars) (map-append (λ (n : Bor Rule). n.now) (x ∷ xs) (y ∷ ys))
+      sym (ap (λ (nodes : List (Bor Rule)). gathered c vars features (rules_at nodes)) parts
+      ∙ ap (gathered c vars features) (map-append (λ (n : Bor Rule). n.now) (x ∷ xs) (y ∷ ys))
       ∙ gathered-parts c is x.now (rules_at xs) y.now (rules_at ys))
 
 -- two parts of a list

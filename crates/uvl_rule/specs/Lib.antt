@@ -1,3 +1,4 @@
+pub mod Comparisons
 pub mod Connectives
 pub mod Run
 pub mod Spine

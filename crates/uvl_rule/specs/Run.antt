@@ -4,6 +4,7 @@ use Rattle.std.specs.List.{All}
 use Rattle.dd_store.specs.declared.row.Var.{Var}
 use Rattle.dd_store.specs.Size.{Function}
 use Rattle.uvl_functions.specs.Functions.{rule_function}
+use Rattle.uvl_model.specs.declared.rows.FeatureRow.{FeatureRow}
 use Rattle.uvl_model.specs.declared.rule.Rule.{Rule}
 use Rattle.uvl_model.specs.declared.rule.Rule.TheOpen.{Rule-F}
 use Rattle.uvl_model.specs.declared.rule.Rule.TheViews.{out-Rule}
@@ -39,16 +40,16 @@ abbrev pub right_operand : Rule → Option Rule
 right_operand rule = right_node (out-Rule rule)
 
 -- the function of an operand, and no where there is none
-abbrev pub function_or_no : List Var → Option Rule → Function
-function_or_no vars None = λ a. false
-function_or_no vars (Some rule) = rule_function vars rule
+abbrev pub function_or_no : List Var → List FeatureRow → Option Rule → Function
+function_or_no vars features None = λ a. false
+function_or_no vars features (Some rule) = rule_function vars features rule
 
 -- what a connective makes of the right operands of nodes; of none it is no
-abbrev pub gathered : Connective → List Var → List Rule → Function
-gathered c vars [] = λ a. false
-gathered c vars (node ∷ []) = function_or_no vars (right_operand node)
-gathered c vars (node ∷ next ∷ nodes) =
-    connection c (function_or_no vars (right_operand node)) (gathered c vars (next ∷ nodes))
+abbrev pub gathered : Connective → List Var → List FeatureRow → List Rule → Function
+gathered c vars features [] = λ a. false
+gathered c vars features (node ∷ []) = function_or_no vars features (right_operand node)
+gathered c vars features (node ∷ next ∷ nodes) =
+    connection c (function_or_no vars features (right_operand node)) (gathered c vars features (next ∷ nodes))
 
 -- whether it makes no difference how a chain of the connective is grouped, and in which order it stands
 abbrev pub regroups : Connective → Bool

@@ -3,6 +3,7 @@ use Rattle.std.specs.Prelude.{◌≡◌, List, [], ◌∷◌, Option, Some, None
 use Rattle.std.specs.Borrow.{Bor}
 use Rattle.dd_store.specs.declared.row.Var.{Var}
 use Rattle.dd_store.specs.Size.{Function}
+use Rattle.uvl_model.specs.declared.rows.FeatureRow.{FeatureRow}
 use Rattle.uvl_model.specs.declared.rule.Rule.{Rule}
 use Rattle.uvl_model.specs.declared.rule.Rule.TheViews.{out-Rule}
 use Rattle.uvl_model.specs.declared.rule.Rule.TheOpen.{Rule-F}
@@ -37,20 +38,24 @@ abbrev pub rules_at : List (Bor Rule) → List Rule
 rules_at nodes = map (λ node. node.now) nodes
 
 -- the groups of an operator and of its right operand, where its left one is held and has the function f
-abbrev pub groups_beside : Connective → List Var → Function → Rule → List (List Function)
-groups_beside c vars f right =
-    connection_group c f (rule_function vars right) ∷ rule_groups vars right
+abbrev pub groups_beside : Connective → List Var → List FeatureRow → Function → Rule → List (List Function)
+groups_beside c vars features f right =
+    connection_group c f (rule_function vars features right) ∷ rule_groups vars features right
 
 -- the groups of a node and of its right operand, where its left or only operand is held
-abbrev pub above_node : List Var → Rule-F Rule → List (List Function)
-above_node vars (Rule-F.Feature f) = []
-above_node vars (Rule-F.Not operand) =
-    group_of (opposite (rule_function vars operand)) (rule_function vars operand ∷ []) [] ∷ []
-above_node vars (Rule-F.And left right) = groups_beside And vars (rule_function vars left) right
-above_node vars (Rule-F.Or left right) = groups_beside Or vars (rule_function vars left) right
-above_node vars (Rule-F.Implies left right) = groups_beside Implies vars (rule_function vars left) right
-above_node vars (Rule-F.Iff left right) = groups_beside Iff vars (rule_function vars left) right
-above_node vars (Rule-F.Compare how left right) = []
+abbrev pub above_node : List Var → List FeatureRow → Rule-F Rule → List (List Function)
+above_node vars features (Rule-F.Feature f) = []
+above_node vars features (Rule-F.Not operand) =
+    group_of (opposite (rule_function vars features operand)) (rule_function vars features operand ∷ []) [] ∷ []
+above_node vars features (Rule-F.And left right) =
+    groups_beside And vars features (rule_function vars features left) right
+above_node vars features (Rule-F.Or left right) =
+    groups_beside Or vars features (rule_function vars features left) right
+above_node vars features (Rule-F.Implies left right) =
+    groups_beside Implies vars features (rule_function vars features left) right
+above_node vars features (Rule-F.Iff left right) =
+    groups_beside Iff vars features (rule_function vars features left) right
+above_node vars features (Rule-F.Compare how left right) = []
 
-abbrev pub groups_above : List Var → Rule → List (List Function)
-groups_above vars rule = above_node vars (out-Rule rule)
+abbrev pub groups_above : List Var → List FeatureRow → Rule → List (List Function)
+groups_above vars features rule = above_node vars features (out-Rule rule)

@@ -8,32 +8,45 @@ ghost use Rattle.dd_store.specs.Table.{IsVariable};
 ghost use Rattle.uvl_functions.specs.Cause.{IsShortFor};
 ghost use Rattle.uvl_functions.specs.Groups.{rule_groups};
 ghost use Rattle.uvl_rule.specs.Spine.{left_operand};
+ghost use Rattle.uvl_functions.specs.Variables.{HasVariables};
+ghost use Rattle.uvl_model.specs.Amounts.{IsReadable};
 ghost use Rattle.uvl_functions.specs.Functions.{is_chosen, rule_function};
 
+use crate::comparison::compile_comparison;
 use dd_apply::Kernel;
 use dd_store::{Handle, Refusal};
 use std::alloc::Global;
 use uvl_functions::{VarMap, literal};
-use uvl_model::{FeatureNo, Rule};
+use uvl_model::{FeatureNo, Model, Rule};
 
-/// The handle of a rule without operands. A comparison counts as no, as in the plain check of a model; no caller has
-/// one.
+/// The handle of a rule without operands: of a feature or of a comparison.
 pub(crate) fn leaf(
     kernel: &mut Kernel,
     alloc: Global,
+    model: &Model,
     map: &VarMap,
     rule: &Rule,
 ) -> Result<Handle, Refusal>
-    requires variables { All (λ v. IsVariable kernel.old v.0) map.now }
+    requires variables { HasVariables kernel.old model.now map.now }
+    requires readable { IsReadable model.now rule.now }
     requires no_operand { left_operand rule.now ≡ None }
-    ensures value { IfOk result (λ h. value_at kernel.new h ≡ rule_function map.now rule.now) }
+    ensures value { IfOk result (λ h. value_at kernel.new h ≡ rule_function map.now model.now.features rule.now) }
     ensures gained { IfOk result (GainsHandle kernel.old kernel.new) }
     ensures refused { OnErr result (KeepsHandles kernel.old kernel.new) }
     ensures keeps { Keeps kernel.old kernel.new }
-    ensures cause { IfErr result (IsShortFor kernel.old (rule_groups map.now rule.now)) }
+    ensures cause { IfErr result (IsShortFor kernel.old (rule_groups map.now model.now.features rule.now)) }
 {
     match rule {
         Rule::Feature(feature) => selected(kernel, alloc, map, *feature),
+        Rule::Compare(how, left, right) => compile_comparison(
+            kernel,
+            alloc,
+            model,
+            map,
+            *how,
+            left.get(),
+            right.get(),
+        ),
         _ => Ok(kernel.constant(false)?),
     }
 }

@@ -1,5 +1,5 @@
 //! A rule of a model, first by the quick way.
-ghost use Rattle.std.specs.Prelude.{◌≡◌, ℕ, Bool, List, IsTrue, IfOk, IfErr, OnErr};
+ghost use Rattle.std.specs.Prelude.{◌≡◌, ℕ, Bool, List, IfOk, IfErr, OnErr};
 ghost use Rattle.dd_store.specs.Changes.{Keeps};
 ghost use Rattle.dd_store.specs.Handles.{GainsHandle, KeepsHandles};
 ghost use Rattle.dd_store.specs.Table.{value_of};
@@ -7,7 +7,6 @@ ghost use Rattle.uvl_functions.specs.Cause.{IsShortFor};
 ghost use Rattle.uvl_functions.specs.Functions.{rule_function};
 ghost use Rattle.uvl_functions.specs.Groups.{rule_groups};
 ghost use Rattle.uvl_functions.specs.Variables.{HasVariables, marks_under};
-ghost use Rattle.uvl_model.specs.Comparisons.{has_no_comparison};
 ghost use Rattle.uvl_model.specs.Constraints.{constraint_of};
 ghost use Rattle.uvl_model.specs.Heads.{heads_of_rows};
 ghost use Rattle.uvl_model.specs.Marks.{StandFor};
@@ -38,8 +37,8 @@ pub fn compile_rule(
 ) -> Result<Handle, Refusal>
     requires variables { HasVariables kernel.old model.now map.now }
     requires rule { IsRule model.now rule.now }
-    requires boolean { IsTrue (has_no_comparison rule.now) }
-    ensures value { IfOk result (λ h. (a : ℕ → Bool) → value_of kernel.new h a ≡ rule_function map.now rule.now a) }
+    ensures value { IfOk result (λ h. (a : ℕ → Bool) →
+        value_of kernel.new h a ≡ rule_function map.now model.now.features rule.now a) }
     ensures meaning { IfOk result (λ h. (a : ℕ → Bool) (set : List (List ℕ)) →
         StandFor (feature_names model.now) (marks_under map.now a) set →
         value_of kernel.new h a
@@ -47,12 +46,14 @@ pub fn compile_rule(
     ensures gained { IfOk result (GainsHandle kernel.old kernel.new) }
     ensures refused { OnErr result (KeepsHandles kernel.old kernel.new) }
     ensures keeps { Keeps kernel.old kernel.new }
-    ensures cause { IfErr result (IsShortFor kernel.old (rule_groups map.now rule.now)) }
+    ensures cause { IfErr result (IsShortFor kernel.old (rule_groups map.now model.now.features rule.now)) }
 {
-    match quick_rule(kernel, alloc, map, rule) {
+    // The model is sound: a fact for the proof.
+    model.features();
+    match quick_rule(kernel, alloc, model, map, rule) {
         Err(Refusal::OverBudget { nodes: _, roots: _ }) => {
             kernel.collect();
-            listed_rule(kernel, alloc, map, rule)
+            listed_rule(kernel, alloc, model, map, rule)
         }
         answer => answer,
     }

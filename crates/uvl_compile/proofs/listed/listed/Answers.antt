@@ -17,7 +17,7 @@ returns-in_err-products-clause-cause c =
 pub loop-rule-init : goal.loop-rule-init
 loop-rule-init c = record {
   value = (λ j a. c.in_ok-products.ensures.value a j) ∙ c.models_give_products.ensures.trees c.args.map.now c.args.model.now c.rules-rule-items.ensures.sound
-      ∙ model-none c.args.map.now c.args.model.now.groups;
+      ∙ model-none c.args.map.now c.args.model.now;
   gained = c.in_ok-products.ensures.gained;
   keeps = c.in_ok-products.ensures.keeps;
 }
@@ -39,14 +39,14 @@ returns-in_err-products-2-clause-cause c =
 pub loop-rule-preserved : goal.loop-rule-preserved
 loop-rule-preserved c =
     let vars = c.args.map.now in
-    let groups = c.args.model.now.groups in
+    let rows = c.args.model.now in
     let k = c.loop-rule.rule-index in
     let rules = c.args.model.now.rules in
     let rule = c.rule-item.result in
     record {
-      value = c.in_ok-products-2.ensures.value ∙ ap (λ (f : Function). both f (rule_function vars rule)) c.loop-rule.invariant.value
-          ∙ model-push vars groups (take k rules) rule
-          ∙ ap (λ (rs : List Rule). model_function vars groups rs) (sym (rules-more c.rules-rule-items.result.now rules c.rules-rule-items.ensures.rows k rule c.rule-item.is c.loop-rule-test.true));
+      value = c.in_ok-products-2.ensures.value ∙ ap (λ (f : Function). both f (rule_function vars rows.features rule)) c.loop-rule.invariant.value
+          ∙ model-push vars rows (take k rules) rule
+          ∙ ap (λ (rs : List Rule). model_function vars rows rs) (sym (rules-more c.rules-rule-items.result.now rules c.rules-rule-items.ensures.rows k rule c.rule-item.is c.loop-rule-test.true));
       gained = gain-replaced c.args.kernel.now c.loop-rule.kernel c.with_rule.new.kernel c.loop-rule.products c.in_ok-products-2.products c.loop-rule.invariant.gained
           c.in_ok-products-2.ensures.replaced;
       keeps = keeps-behind c.args.kernel.now c.loop-rule.kernel c.with_rule.new.kernel c.loop-rule.products c.loop-rule.invariant.keeps c.loop-rule.invariant.gained

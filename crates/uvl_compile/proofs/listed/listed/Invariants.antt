@@ -8,7 +8,7 @@ use Rattle.uvl_compile.proofs.listed.listed.Given as goal
 
 abbrev pub invariant-loop-rule : goal.invariant-loop-rule
 invariant-loop-rule l = record {
-  value : value_at l.kernel l.products ≡ model_function l.map l.model.groups (take l.rule-index l.model.rules);
+  value : value_at l.kernel l.products ≡ model_function l.map l.model (take l.rule-index l.model.rules);
   gained : GainsHandle l.fn.kernel l.kernel l.products;
   keeps : Keeps l.fn.kernel l.kernel;
 }

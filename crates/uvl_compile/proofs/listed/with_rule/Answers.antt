@@ -7,7 +7,7 @@ use Rattle.uvl_compile.proofs.listed.with_rule.Goals as goal
 
 pub returns-in-Ok-clause-value : goal.returns-in-Ok-clause-value
 returns-in-Ok-clause-value c =
-    meet-value c.args.kernel.now c.listed_rule.new.kernel c.meet.new.kernel c.args.held c.in-Ok.made (rule_function c.args.map.now c.args.rule.now) c.meet.result
+    meet-value c.args.kernel.now c.listed_rule.new.kernel c.meet.new.kernel c.args.held c.in-Ok.made (rule_function c.args.map.now c.args.model.now.features c.args.rule.now) c.meet.result
     c.in-Ok.ensures.keeps c.in-Ok.ensures.gained c.requires.live (λ j a. c.in-Ok.ensures.value a j) c.meet.ensures.value
 
 pub returns-in-Ok-clause-keeps : goal.returns-in-Ok-clause-keeps
@@ -16,9 +16,9 @@ returns-in-Ok-clause-keeps c =
 
 pub returns-in-Ok-clause-cause : goal.returns-in-Ok-clause-cause
 returns-in-Ok-clause-cause c =
-    cause-meet c.args.kernel.now c.listed_rule.new.kernel c.args.held c.in-Ok.made c.args.map.now c.args.rule.now c.in-Ok.ensures.keeps c.in-Ok.ensures.gained
-    c.requires.live c.requires.boolean (λ j a. c.in-Ok.ensures.value a j) c.meet.result c.meet.ensures.cause
+    cause-meet c.args.kernel.now c.listed_rule.new.kernel c.args.held c.in-Ok.made c.args.map.now c.args.model.now.features c.args.rule.now c.in-Ok.ensures.keeps c.in-Ok.ensures.gained
+    c.requires.live (λ j a. c.in-Ok.ensures.value a j) c.meet.result c.meet.ensures.cause
 
 pub returns-in-Err-clause-cause : goal.returns-in-Err-clause-cause
 returns-in-Err-clause-cause c =
-    cause-rule c.args.kernel.now c.args.map.now (value_at c.args.kernel.now c.args.held) c.args.rule.now c.in-Err.refusal c.in-Err.ensures.cause
+    cause-rule c.args.kernel.now c.args.map.now c.args.model.now.features (value_at c.args.kernel.now c.args.held) c.args.rule.now c.in-Err.refusal c.in-Err.ensures.cause

@@ -12,15 +12,15 @@ use Rattle.uvl_compile.proofs.products.compile.Goals as goal
 
 pub returns-in-Some-clause-value : goal.returns-in-Some-clause-value
 returns-in-Some-clause-value c = λ a.
-    let is = some-is c.in_ok-made.made c.in-Some.products (λ (h : ℕ). value_at c.fast.new.kernel h ≡ model_function c.args.map.now c.args.model.now.groups c.args.model.now.rules)
+    let is = some-is c.in_ok-made.made c.in-Some.products (λ (h : ℕ). value_at c.fast.new.kernel h ≡ model_function c.args.map.now c.args.model.now c.args.model.now.rules)
     c.in-Some.is c.in_ok-made.ensures.value in
-    ap (λ (f : Function). f a) (is ∙ sym (c.models_give_products.ensures.models c.args.map.now c.args.model.now c.rules.ensures.sound c.requires.boolean))
+    ap (λ (f : Function). f a) (is ∙ sym (c.models_give_products.ensures.models c.args.map.now c.args.model.now c.rules.ensures.sound))
 
 pub returns-in-None-clause-value : goal.returns-in-None-clause-value
 returns-in-None-clause-value c =
     IfOk-weaker c.listed.result _ _
     (λ h is a.
-    ap (λ (f : Function). f a) (is ∙ sym (c.models_give_products.ensures.models c.args.map.now c.args.model.now c.rules.ensures.sound c.requires.boolean)))
+    ap (λ (f : Function). f a) (is ∙ sym (c.models_give_products.ensures.models c.args.map.now c.args.model.now c.rules.ensures.sound)))
     c.listed.ensures.value
 
 pub returns-in-None-clause-keeps : goal.returns-in-None-clause-keeps

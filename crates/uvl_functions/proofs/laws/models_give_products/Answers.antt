@@ -10,7 +10,7 @@ use Rattle.uvl_functions.specs.Variables.{marks_under}
 use Rattle.uvl_functions.proofs.laws.models_give_products.Goals as goal
 
 pub returns-clause-models : goal.returns-clause-models
-returns-clause-models c vars rows sound none = λ j a. c.rows_check_products.ensures rows (marks_under vars a) sound none j
+returns-clause-models c vars rows sound = λ j a. c.rows_tell_products.ensures rows (marks_under vars a) sound j
 
 and-true : (b : Bool) → (b && true) ≡ b
 and-true true = refl
@@ -28,5 +28,5 @@ sound-tree rows sound = record {
 
 pub returns-clause-trees : goal.returns-clause-trees
 returns-clause-trees c vars rows sound = λ j a.
-    (c.rows_check_products.ensures (without_rules rows) (marks_under vars a) (sound-tree rows sound) refl
+    (c.rows_tell_products.ensures (without_rules rows) (marks_under vars a) (sound-tree rows sound)
     ∙ and-true (groups_hold (without_rules rows) (marks_under vars a))) j

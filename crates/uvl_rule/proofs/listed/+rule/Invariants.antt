@@ -13,7 +13,7 @@ abbrev pub invariant-listed_rule-loop-node : goal.invariant-listed_rule-loop-nod
 invariant-listed_rule-loop-node l = record {
   gained : GainsHandle l.fn.kernel l.kernel l.made;
   keeps : Keeps l.fn.kernel l.kernel;
-  part : (part : Rule) × (value_at l.kernel l.made ≡ rule_function l.map part) × IsSpine (rules_at l.nodes.items) part l.rule;
+  part : (part : Rule) × (value_at l.kernel l.made ≡ rule_function l.map l.model.features part) × IsSpine (rules_at l.nodes.items) part l.rule;
 }
 
 abbrev pub decreases-listed_rule-loop-node : goal.decreases-listed_rule-loop-node

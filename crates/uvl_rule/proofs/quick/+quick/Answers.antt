@@ -1,12 +1,9 @@
 -- Each run of the spine is made above the part below it.
-use Rattle.std.proofs.Common.{◌≡◌, ◌⊎◌, ◌∙◌, ℕ, ◌<◌, List, length, take, drop, IfOk, ap, sym, subst, inl, inr, arith}
+use Rattle.std.proofs.Common.{◌≡◌, ◌⊎◌, ◌∙◌, ℕ, ◌<◌, List, length, take, drop, Some, IfOk, ap, sym, subst, inl, inr, arith}
 use Rattle.std.specs.Prelude.{IsTrue}
 use Rattle.std.specs.Borrow.{Bor}
-use Rattle.std.specs.List.{All}
 use Rattle.std.proofs.lemmas.Bool.{eqb-true}
-use Rattle.dd_store.specs.declared.row.Var.{Var}
 use Rattle.dd_store.specs.Exhausted.{value_at}
-use Rattle.dd_store.specs.Order.{IsIn}
 use Rattle.dd_store.specs.Size.{Function}
 use Rattle.dd_store.specs.Table.{IsLive}
 use Rattle.dd_store.proofs.ChangeLemmas.{keeps_then}
@@ -17,11 +14,12 @@ use Rattle.uvl_functions.specs.RuleParts.{opposite}
 use Rattle.uvl_model.specs.declared.rule.Rule.{Rule}
 use Rattle.uvl_rule.specs.declared.connective.Connective.{Connective}
 use Rattle.uvl_rule.specs.Connectives.{connection}
-use Rattle.uvl_rule.specs.Run.{IsRun, gathered, regroups}
+use Rattle.uvl_rule.specs.Run.{IsRun, gathered, nodes_or_none, regroups, right_operand}
 use Rattle.uvl_rule.specs.Spine.{IsSpine, rules_at}
 use Rattle.uvl_rule.proofs.RunLemmas.{gathered-append, parts-lighter, run-joined, run-opposite, spine-cut, spine-weight, split-parts}
 use Rattle.uvl_rule.proofs.ClimbLemmas.{spine-nodes}
 use Rattle.uvl_rule.proofs.SpineLemmas.{gained-replaced, spine-empty}
+use Rattle.uvl_rule.proofs.ReadableLemmas.{first-light, first-readable, nodes-readable, parts-readable, right-readable, spine-readable, variables-kept}
 use Rattle.uvl_rule.proofs.quick.+quick.Goals as goal
 
 -- a run of several nodes has a connective that may be grouped in any way
@@ -38,7 +36,9 @@ gather-gather-requires t c =
     let some : 0 < length front = omega arith in
     let more : 0 < length back = omega arith in
     let lighter = parts-lighter c.args.run.now front back (split-parts c.args.run.now front back _ c.split_at.ensures.front c.split_at.ensures.back) some more in
-    (omega arith, (c.requires.variables, (some, inr (grouping (length c.args.run.now) c.args.connective c.requires.grouping (λ one. absurd (omega arith))))))
+    let readable = parts-readable c.args.model.now c.args.run.now front back
+    (split-parts c.args.run.now front back _ c.split_at.ensures.front c.split_at.ensures.back) c.requires.readable in
+    (omega arith, (c.requires.variables, (readable.0, (some, inr (grouping (length c.args.run.now) c.args.connective c.requires.grouping (λ one. absurd (omega arith)))))))
 
 pub gather-gather-requires-2 : goal.gather-gather-requires-2
 gather-gather-requires-2 t c =
@@ -48,18 +48,17 @@ gather-gather-requires-2 t c =
     let rest = c.split_at.ensures.back_len in
     let some : 0 < length front = omega arith in
     let more : 0 < length back = omega arith in
-    let lighter = parts-lighter c.args.run.now front back (split-parts c.args.run.now front back _ c.split_at.ensures.front c.split_at.ensures.back) some more in (
-      omega arith,
-      (
-        subst (λ (vs : List Var). All (λ (v : Var). IsIn vs v.0) c.args.map.now) (sym c.in_ok-first.ensures.keeps.order) c.requires.variables,
-        (more, inr (grouping (length c.args.run.now) c.args.connective c.requires.grouping (λ one. absurd (omega arith)))),
-      ),
-    )
+    let lighter = parts-lighter c.args.run.now front back (split-parts c.args.run.now front back _ c.split_at.ensures.front c.split_at.ensures.back) some more in
+    let readable = parts-readable c.args.model.now c.args.run.now front back
+    (split-parts c.args.run.now front back _ c.split_at.ensures.front c.split_at.ensures.back) c.requires.readable in
+    let has = variables-kept c.args.kernel.now c.gather.new.kernel c.args.model.now c.args.map.now c.in_ok-first.ensures.keeps.order c.requires.variables in
+    (omega arith, (has, (readable.1, (more, inr (grouping (length c.args.run.now) c.args.connective c.requires.grouping (λ one. absurd (omega arith)))))))
 
 pub gather-returns-in-Ok-clause-value : goal.gather-returns-in-Ok-clause-value
 gather-returns-in-Ok-clause-value t c =
     let k = c.args.connective in
     let vars = c.args.map.now in
+    let features = c.args.model.now.features in
     let front = c.split_at.result.0.now in
     let back = c.split_at.result.1.now in
     let len = c.split_at.ensures.front_len in
@@ -72,11 +71,11 @@ gather-returns-in-Ok-clause-value t c =
     let live : IsLive u c.in_ok-first.first = omega arith in
     let first = value-kept u v c.in-Ok.ensures.keeps c.in_ok-first.first live (live_gained c.in-Ok.ensures.gained c.in_ok-first.first live)
     ∙ c.in_ok-first.ensures.value in
-    let together = gathered-append vars k (grouping (length c.args.run.now) k c.requires.grouping (λ one. absurd (omega arith))) c.args.run.now front back
+    let together = gathered-append vars features k (grouping (length c.args.run.now) k c.requires.grouping (λ one. absurd (omega arith))) c.args.run.now front back
     (split-parts c.args.run.now front back _ c.split_at.ensures.front c.split_at.ensures.back) some more in
     subst (λ (f : Function). IfOk c.connect.result (λ h. value_at c.connect.new.kernel h ≡ f))
     (ap (λ (f : Function). connection k f (value_at v c.in-Ok.second)) first
-    ∙ ap (λ (f : Function). connection k (gathered k vars (rules_at front)) f) c.in-Ok.ensures.value ∙ together)
+    ∙ ap (λ (f : Function). connection k (gathered k vars features (rules_at front)) f) c.in-Ok.ensures.value ∙ together)
     c.connect.ensures.value
 
 pub gather-returns-in-Ok-clause-keeps : goal.gather-returns-in-Ok-clause-keeps
@@ -106,11 +105,17 @@ quick_rule-rise-requires t c =
     let one = ap length c.deref.ensures.value in
     let two = ap length c.deref-in-loop-alloc.ensures.value in
     let within = c.run_start-start.ensures.within in
-    let rest = c.split_at.ensures.back_len in (
+    let rest = c.split_at.ensures.back_len in
+    let has = variables-kept c.args.kernel.now c.loop-alloc.kernel c.args.model.now c.args.map.now c.loop-alloc.invariant.keeps.order c.requires.variables in
+    let readable = nodes-readable c.args.model.now (rules_at run) part.0 top below
+    (spine-readable c.args.model.now (rules_at (take start items)) top c.args.rule.now above c.requires.readable) in (
       omega arith,
       (
-        subst (λ (vs : List Var). All (λ (v : Var). IsIn vs v.0) c.args.map.now) (sym c.loop-alloc.invariant.keeps.order) c.requires,
-        (live, (omega arith, subst (λ (nodes : List (Bor Rule)). IsRun (rules_at nodes)) (ap (drop start) c.deref.ensures.value ∙ sym same) c.run_start-start.ensures.run)),
+        has,
+        (
+          live,
+          (readable, (omega arith, subst (λ (nodes : List (Bor Rule)). IsRun (rules_at nodes)) (ap (drop start) c.deref.ensures.value ∙ sym same) c.run_start-start.ensures.run)),
+        ),
       ),
     )
 
@@ -143,12 +148,12 @@ quick_rule-returns-clause-value t c =
     let none = eqb-true c.loop-alloc.nodes.len 0 (sym c.is_empty.ensures ∙ c.loop-alloc-test.false) in
     let same : part.0 ≡ c.args.rule.now =
     spine-empty c.loop-alloc.nodes.items part.0 c.args.rule.now (omega (arith, c.loop-alloc.nodes.ok.0, none)) part.2 in
-    λ a. ap (λ (f : Function). f a) (part.1 ∙ ap (rule_function c.args.map.now) same)
+    λ a. ap (λ (f : Function). f a) (part.1 ∙ ap (rule_function c.args.map.now c.args.model.now.features) same)
 
 pub rise-returns-in-None-clause-value : goal.rise-returns-in-None-clause-value
 rise-returns-in-None-clause-value t c = λ part top spine is.
     subst (λ (f : Function). IfOk c.negate.result (λ h. value_at c.negate.new.kernel h ≡ f))
-    (ap opposite is ∙ sym (run-opposite c.args.map.now c.args.run.now c.index-run-0.result part top c.index-run-0.is c.requires.some
+    (ap opposite is ∙ sym (run-opposite c.args.map.now c.args.model.now.features c.args.run.now c.index-run-0.result part top c.index-run-0.is c.requires.some
     (sym c.in-None.ensures) c.requires.run spine))
     c.negate.ensures.value
 
@@ -162,9 +167,25 @@ rise-returns-in-Ok-clause-value t c = λ part top spine is.
     let u = c.gather.new.kernel in
     let k = c.in-Some.connective in
     let made = value-kept s u c.in-Ok.ensures.keeps c.args.made c.requires.live (live_gained c.in-Ok.ensures.gained c.args.made c.requires.live) in
-    let whole = run-joined c.args.map.now c.args.run.now c.index-run-0.result part top k c.index-run-0.is c.requires.some
+    let whole = run-joined c.args.map.now c.args.model.now.features c.args.run.now c.index-run-0.result part top k c.index-run-0.is c.requires.some
     (sym c.in-Some.ensures) c.requires.run spine in
     subst (λ (f : Function). IfOk c.connect.result (λ h. value_at c.connect.new.kernel h ≡ f))
     (ap (λ (f : Function). connection k f (value_at u c.in-Ok.right)) (made ∙ is)
-    ∙ ap (λ (f : Function). connection k (rule_function c.args.map.now part) f) c.in-Ok.ensures.value ∙ sym whole)
+    ∙ ap (λ (f : Function). connection k (rule_function c.args.map.now c.args.model.now.features part) f) c.in-Ok.ensures.value ∙ sym whole)
     c.connect.ensures.value
+
+pub quick_rule-leaf-requires-clause-readable : goal.quick_rule-leaf-requires-clause-readable
+quick_rule-leaf-requires-clause-readable t c =
+    spine-readable c.args.model.now (rules_at c.in_ok-nodes.nodes.items) c.in_ok-nodes.part.now c.args.rule.now c.in_ok-nodes.ensures.spine c.requires.readable
+
+pub gather-right_rule-requires : goal.gather-right_rule-requires
+gather-right_rule-requires t c =
+    let light = first-light c.args.run.now c.index-run-0.result c.index-run-0.is c.requires.some in
+    (omega (arith, light), (c.requires.variables, first-readable c.args.model.now c.args.run.now c.index-run-0.result c.index-run-0.is c.requires.some c.requires.readable))
+
+pub right_rule-quick_rule-requires : goal.right_rule-quick_rule-requires
+right_rule-quick_rule-requires t c =
+    let of : right_operand c.args.node.now ≡ Some c.in-Some.right.now = sym c.in-Some.ensures in (
+      omega (arith, ap nodes_or_none of),
+      (c.requires.variables, right-readable c.args.model.now c.args.node.now c.in-Some.right.now of c.requires.readable),
+    )

@@ -14,7 +14,7 @@ abbrev pub invariant-quick_rule-loop-alloc : goal.invariant-quick_rule-loop-allo
 invariant-quick_rule-loop-alloc l = record {
   gained : GainsHandle l.fn.kernel l.kernel l.made;
   keeps : Keeps l.fn.kernel l.kernel;
-  part : (part : Rule) × (value_at l.kernel l.made ≡ rule_function l.map part) × IsSpine (rules_at l.nodes.items) part l.rule;
+  part : (part : Rule) × (value_at l.kernel l.made ≡ rule_function l.map l.model.features part) × IsSpine (rules_at l.nodes.items) part l.rule;
 }
 
 abbrev pub decreases-quick_rule-loop-alloc : goal.decreases-quick_rule-loop-alloc

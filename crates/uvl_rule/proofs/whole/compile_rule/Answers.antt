@@ -22,7 +22,7 @@ kept c =
 
 pub returns-in-Err-OverBudget-clause-cause : goal.returns-in-Err-OverBudget-clause-cause
 returns-in-Err-OverBudget-clause-cause c =
-    again c.args.kernel.now c.collect.new.self (rule_groups c.args.map.now c.args.rule.now) c.listed_rule.result (kept c)
+    again c.args.kernel.now c.collect.new.self (rule_groups c.args.map.now c.args.model.now.features c.args.rule.now) c.listed_rule.result (kept c)
     (λ n live. let one = c.in-Err-OverBudget.ensures.refused.each n in let two = c.collect.ensures.handles.each n in omega arith)
     c.listed_rule.ensures.cause
 
@@ -33,10 +33,10 @@ returns-in-Err-OverBudget-clause-keeps c =
 
 pub returns-in-Err-OverBudget-clause-meaning : goal.returns-in-Err-OverBudget-clause-meaning
 returns-in-Err-OverBudget-clause-meaning c =
-    told-meaning c.args.model.now c.args.map.now c.args.rule.now c.listed_rule.new.kernel c.listed_rule.result c.requires.rule c.requires.boolean
+    told-meaning c.args.model.now c.args.map.now c.args.rule.now c.listed_rule.new.kernel c.listed_rule.result c.features.ensures.sound c.requires.rule
     c.listed_rule.ensures.value
 
 pub returns-in_default-2-clause-meaning : goal.returns-in_default-2-clause-meaning
 returns-in_default-2-clause-meaning c =
-    told-meaning c.args.model.now c.args.map.now c.args.rule.now c.quick_rule.new.kernel c.quick_rule.result c.requires.rule c.requires.boolean
+    told-meaning c.args.model.now c.args.map.now c.args.rule.now c.quick_rule.new.kernel c.quick_rule.result c.features.ensures.sound c.requires.rule
     c.quick_rule.ensures.value
