@@ -10,7 +10,6 @@ use Rattle.uvl_scope.specs.Faults.{HasFirstFault, IsNotBuilt}
 -- what is met with the names of the files is why they have no model
 abbrev pub fault_of : ScopeFault → ResolveFault
 fault_of (met.Model found) = fault.Model found
-fault_of met.NotBuilt = fault.NotBuilt
 fault_of met.OutOfMemory = fault.OutOfMemory
 
 -- The files have this fault first; or nothing is wrong with them, and some rule speaks of numbers, of which nothing is
@@ -19,3 +18,9 @@ abbrev pub IsCauseOf : List Loaded → ResolveFault → Type 0
 IsCauseOf files (fault.Model found) = HasFirstFault files found
 IsCauseOf files fault.NotBuilt = IsNotBuilt files
 IsCauseOf files fault.OutOfMemory = ⊤
+
+-- The files have this fault first. Want of memory may stand for any cause.
+abbrev pub IsFirstFault : List Loaded → ResolveFault → Type 0
+IsFirstFault files (fault.Model found) = HasFirstFault files found
+IsFirstFault files fault.NotBuilt = ⊥
+IsFirstFault files fault.OutOfMemory = ⊤

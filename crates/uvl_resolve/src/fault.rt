@@ -32,7 +32,6 @@ impl From<ScopeFault> for ResolveFault {
     fn from(met: ScopeFault) -> ResolveFault {
         match met {
             ScopeFault::Model(fault) => ResolveFault::Model(fault),
-            ScopeFault::NotBuilt => ResolveFault::NotBuilt,
             ScopeFault::OutOfMemory => ResolveFault::OutOfMemory,
         }
     }

@@ -18,4 +18,4 @@ mod walk;
 
 pub use fault::ResolveFault;
 pub use laws::flat_keeps_products;
-pub use resolving::resolve;
+pub use resolving::{resolve, resolve_with_numbers};

@@ -4,7 +4,7 @@ ghost use Rattle.uvl_base.specs.Limits.{most_features};
 ghost use Rattle.uvl_imports.specs.Sets.{IsWhole};
 ghost use Rattle.uvl_imports.specs.Texts.{AreDistinct};
 ghost use Rattle.uvl_model.specs.Comparisons.{HaveNoComparison};
-ghost use Rattle.uvl_resolve.specs.Faults.{IsCauseOf};
+ghost use Rattle.uvl_resolve.specs.Faults.{IsCauseOf, IsFirstFault};
 ghost use Rattle.uvl_resolve.specs.Flat.{Flat};
 ghost use Rattle.uvl_scope.specs.Faults.{HasNoFault, IsAccepted, have_numbers, scopes_of};
 ghost use Rattle.uvl_scope.specs.Trees.{AreScopesOf};
@@ -17,7 +17,7 @@ use std::alloc::Global;
 use uvl_base::OutOfMemory;
 use uvl_imports::{FileSet, Loaded};
 use uvl_model::{FeatureRow, Model, NameIndex, rows_give_names};
-use uvl_scope::{Scope, check};
+use uvl_scope::{Scope, check, have_numbers};
 
 /// The model that a set of files says: the placed tree of its main file, as rows in document order, with
 /// the constraints of that file. Nothing is wrong with the set then, and no rule speaks of numbers.
@@ -27,6 +27,22 @@ pub fn resolve(alloc: Global, files: &FileSet) -> Result<Model, ResolveFault>
     ensures flat { IfOk result (Flat files.now.files) }
     ensures boolean { IfOk result HaveNoComparison }
     ensures cause { IfErr result (IsCauseOf files.now.files) }
+{
+    let model = resolve_with_numbers(alloc, files)?;
+    if have_numbers(files.files.as_slice()) {
+        return Err(ResolveFault::NotBuilt);
+    }
+    Ok(model)
+}
+
+/// The same, with rules that speak of numbers among them: comparisons of attributes, of sums over the
+/// features of a file and of what arithmetic makes of these, in millionths.
+pub fn resolve_with_numbers(alloc: Global, files: &FileSet) -> Result<Model, ResolveFault>
+    requires { IsWhole files.now.files }
+    ensures fine { IfOk result (λ _. HasNoFault files.now.files) }
+    ensures flat { IfOk result (Flat files.now.files) }
+    ensures boolean { IfOk result (λ model. have_numbers files.now.files ≡ false → HaveNoComparison model) }
+    ensures cause { IfErr result (IsFirstFault files.now.files) }
 {
     let scopes = check(alloc, files)?;
     let model = model_of(alloc, files.files.as_slice(), scopes.scopes.as_slice())?;

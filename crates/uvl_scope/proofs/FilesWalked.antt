@@ -67,7 +67,6 @@ files_stop all front rest scopes loaded (cause.Model fault) go h =
     go.fault
     ∙ ap (λ (f : Option ModelFault). option_or f (first_along fault_of_file (front ++ loaded ∷ []) rest))
     (ap (λ (ss : List Scope). option_map (in_file loaded) (fault_in_file ss loaded)) (sym go.scopes_are) ∙ h)
-files_stop all front rest scopes loaded cause.NotBuilt go h = absurd h
 files_stop all front rest scopes loaded cause.OutOfMemory go h = tt
 
 pub stop_at : (all : List Loaded) (i : ℕ) (seen scopes : List Scope) (loaded : Loaded) (e : ScopeFault) → FilesGoOn all (take i all) (drop i all) scopes

@@ -97,8 +97,7 @@ pub record IsNotBuilt (files : List Loaded) : Type 0 where
   pub no_fault : HasNoFault files
   pub numbers : have_numbers files ≡ true
 
--- why a set is not accepted; want of memory may stand for any cause
+-- why a set has no scopes; want of memory may stand for any cause
 abbrev pub IsCauseOf : List Loaded → ScopeFault → Type 0
 IsCauseOf files (cause.Model fault) = HasFirstFault files fault
-IsCauseOf files cause.NotBuilt = IsNotBuilt files
 IsCauseOf files cause.OutOfMemory = ⊤

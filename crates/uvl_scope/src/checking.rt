@@ -1,14 +1,13 @@
 //! What is wrong first in a set of files, or else what is in scope in each of them.
 ghost use Rattle.std.specs.Prelude.{◌≡◌, IfOk, IfErr, IfNone};
 ghost use Rattle.uvl_imports.specs.declared.file_set.Loaded.{Loaded};
-ghost use Rattle.uvl_scope.specs.Faults.{HasNoFault, IsAccepted, IsCauseOf, fault_in_file, scope_of, scopes_of};
+ghost use Rattle.uvl_scope.specs.Faults.{HasNoFault, IsCauseOf, fault_in_file, scope_of, scopes_of};
 ghost use Rattle.uvl_scope.specs.Trees.{AreScopesOf};
 ghost use Rattle.uvl_scope.specs.steps.Files.{IsCauseIn, IsFaultOf};
 ghost use Rattle.uvl_scope.specs.steps.Walk.{IsFound};
 
 use crate::fault::{FileFault, ScopeFault};
 use crate::imports::Imports;
-use crate::numbers::have_numbers;
 use crate::scope::{Scope, Scopes};
 use crate::tally::Tally;
 use sqlite_items::Items;
@@ -16,18 +15,15 @@ use std::alloc::Global;
 use uvl_base::{FaultKind, ModelFault, Place};
 use uvl_imports::{FileSet, Loaded};
 
-/// What is in scope in the files of a set, unless something is wrong with one of them, or some rule speaks
-/// of numbers, which aren't built yet. The fault is the first: that of the first file that has one.
+/// What is in scope in the files of a set, unless something is wrong with one of them. The fault is the
+/// first: that of the first file that has one.
 pub fn check<'a>(alloc: Global, files: &'a FileSet) -> Result<Scopes<'a>, ScopeFault>
-    ensures accepted { IfOk result (λ scopes. IsAccepted files.now.files) }
+    ensures fine { IfOk result (λ scopes. HasNoFault files.now.files) }
     ensures scopes { IfOk result (λ scopes. scopes.scopes ≡ scopes_of files.now.files) }
     ensures trees { IfOk result (λ scopes. AreScopesOf files.now.files scopes.scopes) }
     ensures cause { IfErr result (IsCauseOf files.now.files) }
 {
     let scopes = scopes_of(alloc, files.files.as_slice())?;
-    if have_numbers(files.files.as_slice()) {
-        return Err(ScopeFault::NotBuilt);
-    }
     Ok(Scopes { scopes })
 }
 

@@ -6,8 +6,6 @@ use uvl_base::{FaultKind, ModelFault, OutOfMemory, Place};
 pub enum ScopeFault {
     /// A file has a fault.
     Model(ModelFault),
-    /// Nothing is wrong, and some rule speaks of numbers, which aren't built yet.
-    NotBuilt,
     OutOfMemory,
 }
 

@@ -26,5 +26,6 @@ pub use fault::ScopeFault;
 pub use law::each_set_has_one_answer;
 pub use limits::{MOST_NODES, MOST_RULES};
 pub use names::NameIndex;
+pub use numbers::have_numbers;
 pub use scope::{Scope, Scopes};
 pub use spelling::push_dotted;

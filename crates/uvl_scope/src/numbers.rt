@@ -1,4 +1,4 @@
-//! Whether some rule speaks of numbers, of which nothing is built yet.
+//! Whether some rule speaks of numbers.
 ghost use Rattle.std.specs.Prelude.{◌≡◌, map};
 ghost use Rattle.std.specs.List.{flat_map, list_any};
 ghost use Rattle.uvl_ast.specs.Rules.{all_rules, all_rules_of_group, rules_of};
@@ -9,8 +9,8 @@ use crate::rules::has_numbers;
 use uvl_ast::{Expr, Feature, File, Group};
 use uvl_imports::Loaded;
 
-/// Whether some rule of some of the files does.
-pub(crate) fn have_numbers(files: &[Loaded]) -> bool
+/// Whether some rule of some of the files has a literal, a sum, arithmetic or a comparison.
+pub fn have_numbers(files: &[Loaded]) -> bool
     ensures { result ≡ have_numbers files.now }
 {
     files.iter().any(|loaded| file_has_numbers(&loaded.file))

@@ -12,7 +12,6 @@ use Rattle.uvl_scope.specs.LineFaults.{Finding, finding}
 -- what is answered where this is found first in a file
 abbrev pub IsCauseIn : Loaded → Option Finding → ScopeFault → Type 0
 IsCauseIn loaded found (cause.Model fault) = option_map (in_file loaded) found ≡ Some fault
-IsCauseIn loaded found cause.NotBuilt = ⊥
 IsCauseIn loaded found cause.OutOfMemory = ⊤
 
 -- what is answered where this is the fault of a file
