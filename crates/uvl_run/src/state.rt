@@ -7,7 +7,6 @@ ghost use Rattle.dd_store.specs.Table.{handles_on};
 ghost use Rattle.uvl_analyses.specs.Analyses.{dead_of, core_of};
 ghost use Rattle.uvl_analyses.specs.Members.{false_optional_of};
 ghost use Rattle.uvl_functions.specs.Variables.{marks_under};
-ghost use Rattle.uvl_model.specs.Comparisons.{HaveNoComparison};
 ghost use Rattle.uvl_model.specs.Marks.{StandFor};
 ghost use Rattle.uvl_model.specs.Products.{Products};
 ghost use Rattle.uvl_model.specs.Spelling.{numbered};
@@ -64,7 +63,6 @@ impl std::marker::Model for State {
 impl State {
     /// The state in front of the first line: the model is compiled in a table that may hold so many nodes.
     pub(crate) fn new(alloc: Global, model: Model, budget: u32) -> Result<State, Refusal>
-        requires boolean { HaveNoComparison model }
         requires least { least_budget ≤ budget }
         requires most { budget ≤ most_budget }
         ensures start { IfOk result (λ state. state ≡ start_of model budget) }
@@ -133,7 +131,6 @@ impl State {
 
 /// The model with its diagram, in a table without variables.
 fn compiled(alloc: Global, kernel: &mut Kernel, model: Model) -> Result<Compiled, Refusal>
-    requires boolean { HaveNoComparison model }
     requires empty { kernel.old.order ≡ [] }
     requires none_live { (n : ℕ) → handles_on kernel.old n ≡ 0 }
     ensures model { IfOk result (λ compiled. compiled.model ≡ model) }

@@ -1,6 +1,5 @@
 //! The top call.
 ghost use Rattle.std.specs.Prelude.{◌≡◌, ◌≤◌, ℕ, List, map, IfOk, string_bytes};
-ghost use Rattle.uvl_model.specs.Comparisons.{HaveNoComparison};
 ghost use Rattle.uvl_words.specs.Budgets.{least_budget, most_budget};
 ghost use Rattle.uvl_run.specs.Exactly.{IsExact};
 ghost use Rattle.uvl_run.specs.Outside.{seen};
@@ -112,7 +111,6 @@ fn answer_by_model<F: Files, S: Source, K: Sink>(
     input: &mut S,
     out: &mut K,
 ) -> Status
-    requires boolean { HaveNoComparison model }
     requires least { least_budget ≤ budget }
     requires most { budget ≤ most_budget }
     ensures answers { (words : List (List ℕ)) (path : List ℕ) → NamesModel words path budget →
