@@ -15,8 +15,8 @@ var_of vars feature = (get_or vars feature.0 (record { 0 = 0 })).0
 abbrev pub without_offer : List Var → List Offer → Bool → List FeatureNo
 without_offer vars offers value =
     filter
-        (λ feature. not (has_value (offer_for offers (var_of vars feature)) value))
-        (map numbered (range_with_len 0 (length vars)))
+    (λ feature. not (has_value (offer_for offers (var_of vars feature)) value))
+    (map numbered (range_with_len 0 (length vars)))
 
 -- the features that are marked
 abbrev pub with_mark : List Bool → List FeatureNo
@@ -30,4 +30,4 @@ is_named features feature = list_any (λ other. other.0 == feature.0) features
 abbrev pub stays : List Var → List Offer → List Offer → FeatureNo → Bool
 stays vars first second feature =
     has_value (offer_for first (var_of vars feature)) true
-        && not (has_value (offer_for second (var_of vars feature)) false)
+    && not (has_value (offer_for second (var_of vars feature)) false)

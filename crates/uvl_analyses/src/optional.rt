@@ -116,7 +116,7 @@ fn mark_members(
     requires given { All (λ v. v.0 < length given.now) vars.now }
     ensures { (n : ℕ) → n < length vars.now → get_or kept.new n false
         ≡ (get_or kept.old n false
-            || (is_named members.now (numbered n) && stays vars.now open.now given.now (numbered n))) }
+        || (is_named members.now (numbered n) && stays vars.now open.now given.now (numbered n))) }
 {
     for member in members {
         let var = vars[member.0 as usize];

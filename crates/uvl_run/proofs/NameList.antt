@@ -46,9 +46,9 @@ one_more rows features i d blank before after within there is written =
     let front : List (List ℕ) = lines_of rows (take i features) in
     let last : List ℕ = name_line (name_of (names_of_rows rows) feature) in
     let longer : lines_of rows (take (i + 1) features) ≡ front ++ last ∷ [] =
-        ap (lines_of rows) (take_more features i d within)
-        ∙ ap (map name_line) (map-append (name_of (names_of_rows rows)) (take i features) (feature ∷ []))
-        ∙ map-append name_line (map (name_of (names_of_rows rows)) (take i features)) (name_of (names_of_rows rows) feature ∷ []) in
+    ap (lines_of rows) (take_more features i d within)
+    ∙ ap (map name_line) (map-append (name_of (names_of_rows rows)) (take i features) (feature ∷ []))
+    ∙ map-append name_line (map (name_of (names_of_rows rows)) (take i features)) (name_of (names_of_rows rows) feature ∷ []) in
     written ∙ ap (λ (bytes : List ℕ). bytes ++ name_line (get_or rows feature.0 blank).name ++ 10 ∷ []) is
     ∙ ap (λ (name : List ℕ). joined front [] ++ name_line name ++ 10 ∷ []) (sym (name_at rows feature.0 blank there))
     ∙ sym (joined-more front last) ∙ ap (λ (lines : List (List ℕ)). joined lines []) (sym longer)

@@ -36,7 +36,11 @@ pub(crate) fn answer_void(state: &State, into: &mut Vec<u8>) -> Result<(), Alloc
 }
 
 /// `dead`: the features that no product has.
-pub(crate) fn answer_dead(state: &State, alloc: Global, into: &mut Vec<u8>) -> Result<(), AllocError>
+pub(crate) fn answer_dead(
+    state: &State,
+    alloc: Global,
+    into: &mut Vec<u8>,
+) -> Result<(), AllocError>
     requires { into.old.items ≡ [] }
     ensures { OnOk result (RepliesToDead state.now into.new.items state.now) }
 {
@@ -44,7 +48,11 @@ pub(crate) fn answer_dead(state: &State, alloc: Global, into: &mut Vec<u8>) -> R
 }
 
 /// `core`: the features that every product has.
-pub(crate) fn answer_core(state: &State, alloc: Global, into: &mut Vec<u8>) -> Result<(), AllocError>
+pub(crate) fn answer_core(
+    state: &State,
+    alloc: Global,
+    into: &mut Vec<u8>,
+) -> Result<(), AllocError>
     requires { into.old.items ≡ [] }
     ensures { OnOk result (RepliesToCore state.now into.new.items state.now) }
 {
@@ -52,7 +60,11 @@ pub(crate) fn answer_core(state: &State, alloc: Global, into: &mut Vec<u8>) -> R
 }
 
 /// `falseopt`: the features that seem optional, and come with their parent in every product.
-pub(crate) fn answer_false_optional(state: &State, alloc: Global, into: &mut Vec<u8>) -> Result<(), AllocError>
+pub(crate) fn answer_false_optional(
+    state: &State,
+    alloc: Global,
+    into: &mut Vec<u8>,
+) -> Result<(), AllocError>
     requires { into.old.items ≡ [] }
     ensures { OnOk result (RepliesToFalseOpt state.now into.new.items state.now) }
 {

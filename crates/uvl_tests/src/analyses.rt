@@ -105,7 +105,10 @@ fn is_refused(found: Result<Vec<FeatureNo>, AnalysisRefusal>) -> bool {
 #[test]
 fn a_void_model_has_no_analyses(rt: HostRuntime) -> Result<(), Fail> {
     let alloc = rt.alloc();
-    let model = model_of(alloc, "features\n\tR\n\t\toptional\n\t\t\tA\nconstraints\n\t!R\n")?;
+    let model = model_of(
+        alloc,
+        "features\n\tR\n\t\toptional\n\t\t\tA\nconstraints\n\t!R\n",
+    )?;
     let mut kernel = Kernel::new(alloc, 1_048_576)?;
     let it = compiled(alloc, &mut kernel, model)?;
     assert!(rt; void(&kernel, &it));
