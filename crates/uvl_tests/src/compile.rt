@@ -7,7 +7,7 @@ use dd_store::{Handle, Var};
 use std::alloc::Global;
 use std::process::Abort;
 use std::test::Fail;
-use uvl_compile::{Names, compile};
+use uvl_compile::{Names, compile, compile_rule, compile_tree};
 
 /// Assignments, and what the value under each is to be.
 fn expect_values(rt: &impl Abort, kernel: &Kernel, handle: &Handle, rows: &[(&[bool], bool)])
@@ -59,4 +59,35 @@ fn the_diagram_of_a_model_has_its_products(rt: HostRuntime) -> Result<(), Fail> 
     expect_diagram(&rt, alloc, THIN, 16, &PRODUCTS_OF_THIN)?;
     let text = "features\n\tA\n\t\tor\n\t\t\tB\n\t\t\tC\nconstraints\n\t!(B & C)\n";
     expect_diagram(&rt, alloc, text, 1_048_576, &ONE_OF_TWO)
+}
+
+/// What the tree of that model says, and what its rule says, where each has a diagram of its own.
+const TREE_OF_OR: [(&[bool], bool); 4] = [
+    (&[true, true, true], true),
+    (&[true, false, true], true),
+    (&[true, false, false], false),
+    (&[false, true, false], false),
+];
+const RULE_OF_OR: [(&[bool], bool); 3] = [
+    (&[true, true, true], false),
+    (&[false, true, true], false),
+    (&[false, true, false], true),
+];
+
+#[test]
+fn a_tree_and_a_rule_have_diagrams_of_their_own(rt: HostRuntime) -> Result<(), Fail> {
+    let alloc = rt.alloc();
+    let text = "features\n\tA\n\t\tor\n\t\t\tB\n\t\t\tC\nconstraints\n\t!(B & C)\n";
+    let model = model_of(alloc, text)?;
+    let mut kernel = Kernel::new(alloc, 1_048_576)?;
+    let mut names = Names::new(alloc);
+    let map = names.place(&mut kernel, alloc, &model)?;
+    let tree = compile_tree(&mut kernel, alloc, &model, &map)?;
+    expect_values(&rt, &kernel, &tree, &TREE_OF_OR);
+    let Some(rule) = model.rules().first() else {
+        return Err(Fail::from("no rule"));
+    };
+    let made = compile_rule(&mut kernel, alloc, &model, &map, rule)?;
+    expect_values(&rt, &kernel, &made, &RULE_OF_OR);
+    Ok(())
 }
