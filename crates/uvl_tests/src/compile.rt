@@ -68,6 +68,7 @@ const TREE_OF_OR: [(&[bool], bool); 4] = [
     (&[true, false, false], false),
     (&[false, true, false], false),
 ];
+
 const RULE_OF_OR: [(&[bool], bool); 3] = [
     (&[true, true, true], false),
     (&[false, true, true], false),
