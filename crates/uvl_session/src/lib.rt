@@ -1,8 +1,10 @@
 //! Configuration sessions over the products of one model.
 #![tactic(auto)]
 
+mod deciding;
 mod decision;
 mod desk;
+mod narrowing;
 mod opening;
 mod refusal;
 mod sessions;
