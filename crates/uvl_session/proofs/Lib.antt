@@ -7,3 +7,4 @@ mod Offered
 mod Allowed
 mod Checking
 mod OneMore
+mod Chosen

@@ -61,7 +61,12 @@ fn may_have(
 
 impl Desk {
     /// Whether the session at a place may have the decision.
-    fn check_at(&self, alloc: Global, place: usize, decision: Decision) -> Result<(), DeskRefusal>
+    pub(crate) fn check_at(
+        &self,
+        alloc: Global,
+        place: usize,
+        decision: Decision,
+    ) -> Result<(), DeskRefusal>
         requires sound { IsSound self.now }
         requires there { place < length self.now.sessions }
         requires feature { decision.feature.0 < length self.now.main.model.features }
@@ -88,7 +93,7 @@ impl Desk {
     }
 
     /// Puts a decision that the session at a place may have behind those that stand.
-    fn decide_at(
+    pub(crate) fn decide_at(
         &mut self,
         alloc: Global,
         place: usize,

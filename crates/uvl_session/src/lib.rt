@@ -7,6 +7,7 @@ mod desk;
 mod narrowing;
 mod opening;
 mod refusal;
+mod selecting;
 mod sessions;
 mod stages;
 
