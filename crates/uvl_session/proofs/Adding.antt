@@ -85,7 +85,7 @@ decided-still rows t u vars decisions h keeps live is = record {
   some = is.some;
 }
 
-each-still : (rows : Rows) (t u : Table) (vars : List Var) (list : List OpenSession) → Keeps t u → ((n : ℕ) → IsLive t n → IsLive u n)
+pub each-still : (rows : Rows) (t u : Table) (vars : List Var) (list : List OpenSession) → Keeps t u → ((n : ℕ) → IsLive t n → IsLive u n)
     → All (IsSession rows t vars) list → All (IsSession rows u vars) list
 each-still rows t u vars list keeps still each =
     All-weaker (IsSession rows t vars) (IsSession rows u vars)

@@ -50,7 +50,7 @@ same_parts part [] i d it' within same = refl
 same_parts part (it ∷ rest) zero d it' within same = ap (λ x. x ∷ map part rest) same
 same_parts part (it ∷ rest) (suc i) d it' within same = ap (λ xs. part it ∷ xs) (same_parts part rest i d it' (omega arith) same)
 
-same_length : (list : List OpenSession) (i : ℕ) (it' : OpenSession) → length (set list i it') ≡ length list
+pub same_length : (list : List OpenSession) (i : ℕ) (it' : OpenSession) → length (set list i it') ≡ length list
 same_length [] i it' = refl
 same_length (it ∷ rest) zero it' = refl
 same_length (it ∷ rest) (suc i) it' = ap suc (same_length rest i it')

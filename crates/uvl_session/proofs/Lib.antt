@@ -2,3 +2,9 @@ mod Found
 mod Changes
 mod Adding
 mod Removing
+mod Fixing
+mod Offered
+mod Allowed
+mod Checking
+mod OneMore
+mod Chosen

@@ -81,7 +81,7 @@ removed_all P (it ∷ rest) zero less all = All-tail P it rest all
 removed_all P (it ∷ rest) (suc i) less all = All-cons P it (remove rest i) (All-head P it rest all) (removed_all P rest i (omega arith) (All-tail P it rest all))
 
 -- the handle of each is counted
-counted : (list : List OpenSession) → All (λ it. 0 < count_on (map handle_of list) it.agreeing) list
+pub counted : (list : List OpenSession) → All (λ it. 0 < count_on (map handle_of list) it.agreeing) list
 counted [] = All-nil (λ it. 0 < count_on (map handle_of []) it.agreeing)
 counted (it ∷ rest) =
     All-cons (λ (s : OpenSession). 0 < count_on (map handle_of (it ∷ rest)) s.agreeing) it rest

@@ -1,10 +1,13 @@
 //! Configuration sessions over the products of one model.
 #![tactic(auto)]
 
+mod deciding;
 mod decision;
 mod desk;
+mod narrowing;
 mod opening;
 mod refusal;
+mod selecting;
 mod sessions;
 mod stages;
 

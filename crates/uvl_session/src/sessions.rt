@@ -1,14 +1,16 @@
 //! The open sessions.
 ghost use Rattle.std.specs.Prelude.{◌≡◌, ◌<◌, [], ◌∷◌, ◌++◌, length, set, get_or, nat_le, option_map, option_copied};
-ghost use Rattle.std.specs.Prelude.{is_some, OnOk, OnErr, vec_len, vec_capacity};
+ghost use Rattle.std.specs.Prelude.{is_some, IfOk, IfErr, OnOk, OnErr, vec_len, vec_capacity};
 ghost use Rattle.std.specs.List.{position, remove};
 ghost use Rattle.dd_store.specs.Changes.{Keeps};
 ghost use Rattle.dd_store.specs.Handles.{GainsHandle, KeepsHandles};
 ghost use Rattle.dd_store.specs.Table.{IsLive};
 ghost use Rattle.uvl_decisions.specs.Opening.{most_sessions};
 ghost use Rattle.uvl_session.specs.declared.sessions.OpenSession.{OpenSession as Session};
+ghost use Rattle.uvl_session.specs.Deciding.{decided_session};
 ghost use Rattle.uvl_session.specs.Sessions.{closed_session, find_session, is_named, AddsSession};
 
+use crate::decision::Decision;
 use crate::stages::Stages;
 use dd_apply::Kernel;
 use dd_store::{Handle, OutOfMemory};
@@ -125,6 +127,48 @@ impl Sessions {
         ensures { (d : Session) → self.new ≡ set self.old place (closed_session (get_or self.old place d)) }
     {
         self.list[place].stages.close();
+    }
+
+    /// The session at a place.
+    pub(crate) fn at(&self, place: usize) -> &OpenSession
+        requires { place < length self.now }
+        ensures { (d : Session) → result.now ≡ get_or self.now place d }
+    {
+        &self.list[place]
+    }
+
+    /// Adds a decision to the session at a place, with the handle that goes with it, and answers the handle that it had.
+    /// Where memory is wanting, all is as before, and the new handle is answered.
+    pub(crate) fn decide_at(
+        &mut self,
+        place: usize,
+        decision: Decision,
+        agreeing: Handle,
+    ) -> Result<Handle, Handle>
+        requires { place < length self.old }
+        ensures list { (d : Session) → OnOk result
+            (self.new ≡ set self.old place (decided_session (get_or self.old place d) decision agreeing)) }
+        ensures handle { (d : Session) → IfOk result (λ h. h ≡ (get_or self.old place d).agreeing) }
+        ensures refused { OnErr result (self.new ≡ self.old) }
+        ensures back { IfErr result (λ h. h ≡ agreeing) }
+    {
+        self.list[place].decide(decision, agreeing)
+    }
+}
+
+impl OpenSession {
+    /// Adds a decision, with the handle that goes with it, and answers the handle before. Where memory is wanting, all is
+    /// as before, and the new handle is answered.
+    fn decide(&mut self, decision: Decision, agreeing: Handle) -> Result<Handle, Handle>
+        ensures decided { OnOk result (self.new ≡ decided_session self.old decision agreeing) }
+        ensures handle { IfOk result (λ h. h ≡ self.old.agreeing) }
+        ensures refused { OnErr result (self.new ≡ self.old) }
+        ensures back { IfErr result (λ h. h ≡ agreeing) }
+    {
+        match self.stages.push(decision) {
+            Ok(()) => Ok(std::mem::replace(&mut self.agreeing, agreeing)),
+            Err(_) => Err(agreeing),
+        }
     }
 }
 
