@@ -10,8 +10,9 @@ from .syntax import dotted, features_of
 
 FAULTS = {
     1: "Absent", 2: "TooLong", 3: "NotUtf8", 13: "DuplicateFeature", 14: "DuplicateAttribute", 15: "UnknownFeature",
-    19: "BadRange", 20: "ImportCycle", 21: "ImportDepth", 22: "PlacedTwice", 23: "TooManyFeatures", 26: "TooManyFiles",
-    28: "MissingFeatures", 29: "BadImportName", 30: "BodyOnPlacedImport", 31: "TooManyRules", **NAMES,
+    16: "UnknownAttribute", 18: "WrongSort", 19: "BadRange", 20: "ImportCycle", 21: "ImportDepth", 22: "PlacedTwice",
+    23: "TooManyFeatures", 25: "NotLinear", 26: "TooManyFiles", 27: "FactorTooLarge", 28: "MissingFeatures", 29: "BadImportName",
+    30: "BodyOnPlacedImport", 31: "TooManyRules", **NAMES,
 }
 
 

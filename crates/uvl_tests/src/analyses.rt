@@ -1,7 +1,6 @@
 //! Void models, and dead, core and false-optional features, against lists that are worked out by hand.
-ghost use Rattle.std.specs.Prelude.{IfOk};
+ghost use Rattle.std.specs.Prelude.{◌≡◌, [], IfOk};
 ghost use Rattle.uvl_analyses.specs.Compiled.{IsCompiled};
-ghost use Rattle.uvl_model.specs.Comparisons.{HaveNoComparison};
 
 use crate::texts::{THIN, model_of};
 use dd_apply::Kernel;
@@ -41,9 +40,9 @@ const ROWS: [Row; 5] = [
     ),
 ];
 
-/// The diagram of a model in a table of the default budget.
+/// The diagram of a model in a table without variables.
 fn compiled(alloc: Global, kernel: &mut Kernel, model: Model) -> Result<Compiled, Fail>
-    requires { HaveNoComparison model }
+    requires { kernel.old.order ≡ [] }
     ensures { IfOk result (λ it. IsCompiled it.model kernel.new it.map it.products) }
 {
     let mut names = Names::new(alloc);
