@@ -4,6 +4,7 @@
 mod deciding;
 mod decision;
 mod desk;
+mod maintaining;
 mod narrowing;
 mod opening;
 mod refusal;
@@ -13,6 +14,7 @@ mod stages;
 
 pub use decision::Decision;
 pub use desk::Desk;
+pub use maintaining::{Maintained, Step};
 pub use refusal::DeskRefusal;
 pub use sessions::{MOST_SESSIONS, OpenSession, Sessions};
 pub use stages::Stages;
